@@ -1,7 +1,5 @@
 -- What a receiver makes of the PDUs of an event, one subevent behind the other.
-use Rattle.std.proofs.Common.{add-one}
-use Rattle.group_sink.proofs.Prelude.{ℕ, ◌≡◌, ◌+◌, List, get_or, Option, None, ap, ◌∙◌, number_of, hear_where, hear_first, Receiver}
-use Rattle.big_info.specs.declared.info.BigInfo.{BigInfo}
+use Rattle.group_sink.proofs.Prelude.{ℕ, ◌≡◌, ◌+◌, List, get_or, Option, None, ap, ◌∙◌, number_of, hear_where, hear_first, Receiver, add-one, BigInfo}
 
 pub heard_more : (info : BigInfo) (event s : ℕ) (pdus : List (Option (List ℕ))) (number : Option ℕ) (receiver mid new : Receiver)
     → mid ≡ hear_first info event pdus s receiver → number ≡ number_of info event s → new ≡ hear_where number (get_or pdus s None) mid

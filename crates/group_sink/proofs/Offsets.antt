@@ -1,9 +1,7 @@
 -- The payload numbers that a table gives are those of the definition.
-use Rattle.group_sink.proofs.Prelude.{ℕ, ◌≡◌, ◌<◌, ◌≤◌, ◌+◌, ◌*◌, ◌%◌, ◌/◌, ◌^◌, Bool, false, ltb, List, length, set, get_or, get_or-set_other, get_or-set_same, Some, None, cond, arith, lt-ltb, le-ltb, cond-true, cond-false, and_from, cases_lt, ahead_of, payload_number, number_of}
+use Rattle.group_sink.proofs.Prelude.{ℕ, ◌≡◌, ◌<◌, ◌≤◌, ◌+◌, ◌*◌, ◌%◌, ◌/◌, ◌^◌, Bool, false, ltb, List, length, set, get_or, get_or-set_other, get_or-set_same, Some, None, cond, arith, lt-ltb, le-ltb, cond-true, cond-false, and_from, cases_lt, ahead_of, payload_number, number_of, mul-le, BigInfo}
 use Rattle.std.proofs.Math.Nat.{add-mul}
-use Rattle.std.proofs.lemmas.Nat.{mul-le}
 use Rattle.std.specs.Prelude.{◌&&◌}
-use Rattle.big_info.specs.declared.info.BigInfo.{BigInfo}
 
 -- the last number of a window is not far above the first of its event
 pub offset_fits : (ahead bn rest : ℕ) → ahead ≤ 31 → bn < 8 → rest < bn → ahead * bn + rest < 256

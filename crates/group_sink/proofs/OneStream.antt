@@ -1,10 +1,9 @@
 -- What is handed of one stream.
-use Rattle.group_sink.proofs.Prelude.{ℕ, zero, suc, ◌≡◌, ◌≢◌, ◌+◌, ◌-◌, ◌<◌, ◌≤◌, Bool, true, cond, eqb, leb, List, [], ◌∷◌, ◌++◌, map, drop, length, Option, Some, refl, sym, ap, ◌∙◌, inl, inr, arith, AllByRecursion, Contains, flat_map, range_with_len, cases_Bool, cases_eq, cond-true, cond-false, eq-eqb, ne_eqb, append-nil, filter-append, Handed, Stay, opened, unit_at, units_of, handed, closed_tokens, decided, event_tokens, gained, Call, tune, hear, tick, leave, place, BigSync, units_at_close, units_on, handed_by, handed_at, handed_since, bis_of, of_stream, is_in, number_of, stay_on, stream_calls, streams_of, with_hear}
+use Rattle.group_sink.proofs.Prelude.{ℕ, zero, suc, ◌≡◌, ◌≢◌, ◌+◌, ◌-◌, ◌<◌, ◌≤◌, Bool, true, cond, eqb, leb, List, [], ◌∷◌, ◌++◌, map, drop, length, Option, Some, refl, sym, ap, ◌∙◌, inl, inr, arith, AllByRecursion, Contains, flat_map, range_with_len, cases_Bool, cases_eq, cond-true, cond-false, eq-eqb, ne_eqb, append-nil, filter-append, Handed, Stay, opened, unit_at, units_of, handed, closed_tokens, decided, event_tokens, gained, Call, tune, hear, tick, leave, place, BigSync, units_at_close, units_on, handed_by, handed_at, handed_since, bis_of, of_stream, is_in, number_of, stay_on, stream_calls, streams_of, with_hear, close_gains, decides_nothing}
 use Rattle.isoal_base.specs.Stays as stays
 use Rattle.isoal_unframed.specs.State.Windows.{handed_of}
 use Rattle.isoal_framed.specs.Tokens.{Token, starts, goes_on, missing}
 use Rattle.isoal_framed.specs.Units.{Fate, whole, broken, undecided, fate_at, units, handed_of as handed_fate}
-use Rattle.isoal_framed.proofs.Citable.{close_gains, decides_nothing}
 use Rattle.group_sink.proofs.Sets.{flat_map_filter, is_member, member_is}
 
 of_append : (bis : ℕ) (xs ys : List Handed) → of_stream bis (xs ++ ys) ≡ of_stream bis xs ++ of_stream bis ys

@@ -1,7 +1,5 @@
 -- The place of the receiver of a stream among those of the streams that a sink takes.
-use Rattle.group_sink.proofs.Prelude.{ℕ, zero, suc, ◌≡◌, ◌≢◌, ◌+◌, ◌-◌, ◌<◌, ◌≤◌, Bool, true, false, cond, List, [], ◌∷◌, ◌++◌, length, map, set, replicate, slice_get, Some, None, refl, sym, ap, ◌∙◌, inl, inr, arith, filter, range_with_len, eq-eqb, ne_eqb, cases_Bool, cases_eq, cond-true, cond-false, append_assoc, append-nil, length-map, map-append, set_at, filter-append, length-map-range_with_len, length-range_with_len, map-range_with_len_more, place_in, places_of, is_in, streams_of}
-use Rattle.std.specs.Int.{bit_at}
-use Rattle.bcast_base.specs.Bis.{Has}
+use Rattle.group_sink.proofs.Prelude.{ℕ, zero, suc, ◌≡◌, ◌≢◌, ◌+◌, ◌-◌, ◌<◌, ◌≤◌, Bool, true, false, cond, List, [], ◌∷◌, ◌++◌, length, map, set, replicate, slice_get, Some, None, refl, sym, ap, ◌∙◌, inl, inr, arith, filter, range_with_len, eq-eqb, ne_eqb, cases_Bool, cases_eq, cond-true, cond-false, append_assoc, append-nil, length-map, map-append, set_at, filter-append, length-map-range_with_len, length-range_with_len, map-range_with_len_more, place_in, places_of, is_in, streams_of, bit_at, Has}
 
 -- the indices below one and above it
 range_split : (start n m : ℕ) → range_with_len start (n + m) ≡ range_with_len start n ++ range_with_len (start + n) m

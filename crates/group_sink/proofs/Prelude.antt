@@ -1,5 +1,5 @@
 -- What the proofs of this crate use of `std` and of the crates below it, by one import.
-pub use Rattle.std.proofs.Common.{ℕ, ◌≡◌, ◌+◌, Bool, true, false, cond, eqb, leb, List, [], ◌∷◌, Option, Some, None, refl, ap, ◌∙◌, arith, zero, suc, ◌-◌, ◌<◌, ◌≤◌, ◌++◌, length, get_or, sym, subst, inl, inr, ◌≢◌, map, drop, slice_get, take, set, replicate, ◌*◌, ◌↔◌, ◌⊎◌, slice_set, option_map, Result, Ok, Err, ◌%◌, ◌/◌, ◌^◌, ltb, get_or-set_other, get_or-set_same, vec_len, length-set}
+pub use Rattle.std.proofs.Common.{ℕ, ◌≡◌, ◌+◌, Bool, true, false, cond, eqb, leb, List, [], ◌∷◌, Option, Some, None, refl, ap, ◌∙◌, arith, zero, suc, ◌-◌, ◌<◌, ◌≤◌, ◌++◌, length, get_or, sym, subst, inl, inr, ◌≢◌, map, drop, slice_get, take, set, replicate, ◌*◌, ◌↔◌, ◌⊎◌, slice_set, option_map, Result, Ok, Err, ◌%◌, ◌/◌, ◌^◌, ltb, get_or-set_other, get_or-set_same, vec_len, length-set, add-one}
 pub use Rattle.std.proofs.lemmas.Bool.{cond-true, eq-eqb, eqb-true, cases_Bool, cases_eq, cond-false, ne_eqb, lt-ltb, le-ltb, and_from, cases_lt}
 pub use Rattle.std.proofs.lemmas.List.{append-nil, append_assoc, length-map, take_more, take-append-le, get_or-append_right, get_or-drop, length-append, length-take-le, map-append, set_at}
 pub use Rattle.std.proofs.lemmas.List.Elements.{filter-append}
@@ -20,3 +20,10 @@ pub use Rattle.isoal_unframed.specs.Histories.{units_of, unit_at, handed}
 pub use Rattle.radio_schedule.specs.PayloadNumber.{payload_number, ahead_of}
 pub use Rattle.sync_reference.specs.BigSync.{BigSync}
 pub use Rattle.unit_outlets.specs.Handed.{Handed, Caused, HandsOver, Counts}
+pub use Rattle.std.specs.Int.{bit_at}
+pub use Rattle.bcast_base.specs.Bis.{Has}
+pub use Rattle.isoal_framed.proofs.Citable.{close_gains, decides_nothing}
+pub use Rattle.big_info.specs.declared.info.BigInfo.{BigInfo}
+pub use Rattle.group_sink.specs.Hearings.{hearing_on, hearing_at, hearing_of, entries_of, segments_of, heard_on}
+pub use Rattle.std.proofs.lemmas.Nat.{mul-le, leading_length}
+pub use Rattle.group_sink.specs.declared.receiver.Receiver.TheVariants.{Unframed, Framed}

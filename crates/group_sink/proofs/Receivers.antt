@@ -1,6 +1,5 @@
 -- A receiver of either framing that stands for its calls stands for them and one more.
-use Rattle.std.proofs.Common.{arith}
-use Rattle.group_sink.proofs.Prelude.{ℕ, ◌≡◌, ◌+◌, ◌≤◌, Bool, true, cond, eqb, List, [], ◌∷◌, replicate, None, refl, ap, ◌∙◌, eqb-true, Bounds, Handed, Stay, opened, window_of, units_of, gained, undecided_in, units_at_close, fresh, unframed_after, framed_after, receiver_after, open_of, answer_by, hear_by, owed_of, closed}
+use Rattle.group_sink.proofs.Prelude.{ℕ, ◌≡◌, ◌+◌, ◌≤◌, Bool, true, cond, eqb, List, [], ◌∷◌, replicate, None, refl, ap, ◌∙◌, eqb-true, Bounds, Handed, Stay, opened, window_of, units_of, gained, undecided_in, units_at_close, fresh, unframed_after, framed_after, receiver_after, open_of, answer_by, hear_by, owed_of, closed, arith, entries_of, segments_of, heard_on, Unframed, Framed}
 use Rattle.isoal_base.specs.Hearing.{read_as}
 use Rattle.isoal_base.specs.Stays as stays
 use Rattle.isoal_base.proofs.Citable.{stands_new, stands_hear, stands_close}
@@ -9,8 +8,6 @@ use Rattle.isoal_unframed.specs.State.Windows as plain
 use Rattle.isoal_unframed.proofs.Citable.{owed_is as unframed_owed}
 use Rattle.isoal_framed.specs.State.Windows as segments
 use Rattle.isoal_framed.proofs.Citable.{new_stands, hear_stands, close_stands, owed_is as framed_owed}
-use Rattle.group_sink.specs.Hearings.{entries_of, segments_of, heard_on}
-use Rattle.group_sink.specs.declared.receiver.Receiver.TheVariants.{Unframed, Framed}
 
 -- each framing by itself
 unframed_new : (stay : Stay) → record { stay = stay; event = stay.first; kept = replicate (window_of stay.info) None } ≡ unframed_after stay []

@@ -1,9 +1,7 @@
 -- The elements of a list that pass a test, and what is handed of them.
-use Rattle.group_sink.proofs.Prelude.{ℕ, zero, suc, ◌≡◌, ◌↔◌, ◌⊎◌, ◌+◌, ◌-◌, ◌<◌, ◌≤◌, Bool, true, false, cond, List, [], ◌∷◌, ◌++◌, length, get_or, refl, ◌∙◌, subst, inl, inr, arith, Contains, filter, flat_map, range_with_len, cond-true, eq-eqb, eqb-true, get_or-range_with_len, length-range_with_len, Handed, is_in, streams_of}
-use Rattle.std.specs.Int.{bit_at}
+use Rattle.group_sink.proofs.Prelude.{ℕ, zero, suc, ◌≡◌, ◌↔◌, ◌⊎◌, ◌+◌, ◌-◌, ◌<◌, ◌≤◌, Bool, true, false, cond, List, [], ◌∷◌, ◌++◌, length, get_or, refl, ◌∙◌, subst, inl, inr, arith, Contains, filter, flat_map, range_with_len, cond-true, eq-eqb, eqb-true, get_or-range_with_len, length-range_with_len, Handed, is_in, streams_of, bit_at, Has}
 use Rattle.std.specs.List.Sorted.{IsStrictlyIncreasing}
 use Rattle.std.proofs.lemmas.List.Kept.{IsStrictlyIncreasing-filter}
-use Rattle.bcast_base.specs.Bis.{Has}
 
 flat_map_one : (taken : Bool) (f : ℕ → List Handed) (x : ℕ) (xs : List ℕ)
     → cond taken (f x) [] ++ flat_map f xs ≡ flat_map f (cond taken (x ∷ xs) xs)

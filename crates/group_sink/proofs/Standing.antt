@@ -1,12 +1,10 @@
 -- A sink that stands for its calls stands for them and one more.
-use Rattle.group_sink.proofs.Prelude.{ℕ, zero, suc, length, get_or, sym, subst, heard_where, heard_first, heard_calls, hear_where, hear_first, hear_all, all_heard_at, hear_all_on, ◌≡◌, ◌≢◌, ◌-◌, ◌≤◌, Bool, true, false, cond, eqb, leb, List, [], ◌∷◌, ◌++◌, map, slice_get, slice_set, Option, Some, None, option_map, refl, ap, ◌∙◌, arith, flat_map, cond-true, cond-false, eq-eqb, ne_eqb, get_or-map-range_with_len, same_Some, Bounds, Handed, Stay, opened, Call, tune, hear, tick, place, BigSync, units_by, units_on, handed_by, handed_at, closed, fresh, owed_of, receiver_after, OnGroup, StandsFor, place_in, places_of, stream_after, on_after, fresh_on, answer_at, answer_on, hear_at, heard_at, hear_on, place_on, owed_by, owed_on, tick_at, tick_on, is_in, number_of, stay_on, stream_calls, streams_of, with_hear, with_tick, Receiver}
+use Rattle.group_sink.proofs.Prelude.{ℕ, zero, suc, length, get_or, sym, subst, heard_where, heard_first, heard_calls, hear_where, hear_first, hear_all, all_heard_at, hear_all_on, ◌≡◌, ◌≢◌, ◌-◌, ◌≤◌, Bool, true, false, cond, eqb, leb, List, [], ◌∷◌, ◌++◌, map, slice_get, slice_set, Option, Some, None, option_map, refl, ap, ◌∙◌, arith, flat_map, cond-true, cond-false, eq-eqb, ne_eqb, get_or-map-range_with_len, same_Some, Bounds, Handed, Stay, opened, Call, tune, hear, tick, place, BigSync, units_by, units_on, handed_by, handed_at, closed, fresh, owed_of, receiver_after, OnGroup, StandsFor, place_in, places_of, stream_after, on_after, fresh_on, answer_at, answer_on, hear_at, heard_at, hear_on, place_on, owed_by, owed_on, tick_at, tick_on, is_in, number_of, stay_on, stream_calls, streams_of, with_hear, with_tick, Receiver, BigInfo, hearing_on, hearing_at, hearing_of}
 use Rattle.std.proofs.lemmas.List.Folds.{flat_map-map}
-use Rattle.big_info.specs.declared.info.BigInfo.{BigInfo}
 use Rattle.isoal_base.specs.declared.hearing.Hearing.TheVariants as hearings
 use Rattle.isoal_base.specs.Stays as stays
 use Rattle.group_sink.proofs.Places.{stream_at, stream_set, streams_same}
 use Rattle.group_sink.proofs.Receivers.{answer_is, open_is, owed_is, receiver_close, receiver_hear, receiver_new}
-use Rattle.group_sink.specs.Hearings.{hearing_on, hearing_at, hearing_of}
 
 map_all : {X : Type 0} (f g : ℕ → X) (xs : List ℕ) → ((x : ℕ) → f x ≡ g x) → map f xs ≡ map g xs
 map_all f g [] same = refl

@@ -79,16 +79,14 @@ single_unit stay heard closed from n whole unit units octets fits all last last_
       (let count : n ≡ 0 = (omega arith) in
       ap (λ flag. hands stay.info.max_sdu stay.bis None (starts (time_of stay (from / stay.info.bn) unit.offset) flag octets
       ∷ (map (token_of stay (from / stay.info.bn)) (parts_at units from) ++ toks stay heard (from + 1) [] whole units (from + 1) n)))
-      (and_left unit.whole true part)
-      ∙ hands_start stay.info.max_sdu stay.bis (time_of stay (from / stay.info.bn) unit.offset) octets
+      (and_left unit.whole true part) ∙ hands_start stay.info.max_sdu stay.bis (time_of stay (from / stay.info.bn) unit.offset) octets
       (map (token_of stay (from / stay.info.bn)) (parts_at units from) ++ toks stay heard (from + 1) [] whole units (from + 1) n) fits
       ∙ ap (λ us. hands stay.info.max_sdu stay.bis (Some (record { time = time_of stay (from / stay.info.bn) unit.offset; octets = octets }))
       (map (token_of stay (from / stay.info.bn)) (parts_at us from) ++ toks stay heard (from + 1) [] whole us (from + 1) n)) (last part)
       ∙ ap (λ k. hands stay.info.max_sdu stay.bis (Some (record { time = time_of stay (from / stay.info.bn) unit.offset; octets = octets }))
       (toks stay heard (from + 1) [] whole [] (from + 1) k)) count
       ∙ ap (hands stay.info.max_sdu stay.bis (Some (record { time = time_of stay (from / stay.info.bn) unit.offset; octets = octets })))
-      (toks_none stay heard (from + 1) [] whole [] (from + 1))
-      ∙ ap (flat_map (entry_of stay heard closed)) (sym (last part))
+      (toks_none stay heard (from + 1) [] whole [] (from + 1)) ∙ ap (flat_map (entry_of stay heard closed)) (sym (last part))
       ∙ ap (λ xs. xs ++ flat_map (entry_of stay heard closed) units)
       (sym (cond-false unit.whole (valid stay.bis (time_of stay (from / stay.info.bn) unit.offset) octets ∷ []) [] part)))
 ]
@@ -111,8 +109,7 @@ begun_unit : (stay : Stay) (heard : ℕ → Bool) (closed from n : ℕ) (whole :
     → (unit : Sent) (units : List Sent) → InOrder from closed (unit ∷ units) → Fit stay.info.max_sdu (unit ∷ units) → unit.first ≡ from
     → (InOrder from closed units → hands stay.info.max_sdu stay.bis None
     (map (token_of stay (from / stay.info.bn)) (parts_at units from) ++ toks stay heard (from + 1) [] whole units (from + 1) n)
-    ≡ flat_map (entry_of stay heard closed) units)
-    → (segments : List (List ℕ)) → unit.segments ≡ segments
+    ≡ flat_map (entry_of stay heard closed) units) → (segments : List (List ℕ)) → unit.segments ≡ segments
     → hands stay.info.max_sdu stay.bis None
     (map (token_of stay (from / stay.info.bn)) (parts_at (unit ∷ units) from) ++ toks stay heard (from + 1) [] whole (unit ∷ units) (from + 1) n)
     ≡ flat_map (entry_of stay heard closed) (unit ∷ units)
@@ -126,8 +123,7 @@ begun_unit stay heard closed from n whole shown here all unit units order fit at
     (starts_here stay unit units from octets [] is at)
     ∙ ap (λ tokens. hands stay.info.max_sdu stay.bis None (starts (time_of stay (from / stay.info.bn) unit.offset) (unit.whole && true) octets
     ∷ (map (token_of stay (from / stay.info.bn)) (parts_at units from) ++ tokens)))
-    (same_single stay heard from whole unit units octets n is at)
-    ∙ single_unit stay heard closed from n whole unit units octets fits all
+    (same_single stay heard from whole unit units octets n is at) ∙ single_unit stay heard closed from n whole unit units octets fits all
     (λ part. (order.2 part).0) (λ part. subst (λ end. closed ≤ end) behind_is (order.2 part).1)
     (others (subst (λ first. InOrder first closed units) (omega (arith, behind_is)) order.3))
     ∙ ap (λ xs. xs ++ flat_map (entry_of stay heard closed) units) (sym entry)
@@ -153,13 +149,10 @@ begun_unit stay heard closed from n whole shown here all unit units order fit at
     ∙ goes_shown stay heard closed (from + 1) n unit.whole (Some (record { time = time_of stay (from / stay.info.bn) unit.offset; octets = octets })) units next segments shown
     (subst (λ first. InOrder first closed units) (omega (arith, behind_is)) order.3)
     (λ part. ((order.2 part).0, subst (λ end. closed ≤ end) behind_is (order.2 part).1))
-    (grind (arith, length, octets_in, run_inj, time_of))
-    fit.1
-    ∙ ap (λ xs. xs ++ flat_map (entry_of stay heard closed) units) (sym entry)
+    (grind (arith, length, octets_in, run_inj, time_of)) fit.1 ∙ ap (λ xs. xs ++ flat_map (entry_of stay heard closed) units) (sym entry)
 
 pub begun_heard : (stay : Stay) (heard : ℕ → Bool) (closed from n : ℕ) (whole : Bool) → Shown stay heard closed (from + 1) n → heard from ≡ true → from + suc n ≡ closed
-    → (units : List Sent) → InOrder from closed units → Fit stay.info.max_sdu units
-    → hands stay.info.max_sdu stay.bis None
+    → (units : List Sent) → InOrder from closed units → Fit stay.info.max_sdu units → hands stay.info.max_sdu stay.bis None
     (map (token_of stay (from / stay.info.bn)) (parts_at units from) ++ toks stay heard (from + 1) [] whole units (from + 1) n)
     ≡ flat_map (entry_of stay heard closed) units
 begun_heard stay heard closed from n whole shown here all [] order fit = shown_none stay heard closed (from + 1) n whole [] shown tt tt
@@ -192,8 +185,7 @@ missed_unit stay heard closed from n whole shown gap unit units order fit at oth
     ap (hands stay.info.max_sdu stay.bis None) (same_goes_on stay heard from whole unit units octets (next ∷ segments) n is at)
     ∙ goes_shown stay heard closed (from + 1) n unit.whole None units next segments shown
     (subst (λ first. InOrder first closed units) (omega (arith, behind_is)) order.3)
-    (λ part. ((order.2 part).0, subst (λ end. closed ≤ end) behind_is (order.2 part).1))
-    (λ r same. absurd (none-some r same)) fit.1
+    (λ part. ((order.2 part).0, subst (λ end. closed ≤ end) behind_is (order.2 part).1)) (λ r same. absurd (none-some r same)) fit.1
     ∙ ap (λ xs. xs ++ flat_map (entry_of stay heard closed) units) (sym (entry_missed stay heard closed unit (ap heard at ∙ gap)))
 
 pub begun_missed : (stay : Stay) (heard : ℕ → Bool) (closed from n : ℕ) (whole : Bool) → Shown stay heard closed (from + 1) n → heard from ≡ false

@@ -17,8 +17,7 @@ flat_last f start zero = grind (arith, append-nil)
 flat_last f start (suc n) =
     let more : suc n + 1 ≡ suc (n + 1) = omega arith in
     let next : start + 1 + n ≡ start + suc n = omega arith in
-    ap (λ k. flat_map f (range_with_len start k)) more
-    ∙ ap (λ xs. f start ++ xs) (flat_last f (start + 1) n)
+    ap (λ k. flat_map f (range_with_len start k)) more ∙ ap (λ xs. f start ++ xs) (flat_last f (start + 1) n)
     ∙ sym (append_assoc (f start) (flat_map f (range_with_len (start + 1) n)) (f (start + 1 + n)))
     ∙ ap (λ k. (f start ++ flat_map f (range_with_len (start + 1) n)) ++ f k) next
 
@@ -37,8 +36,7 @@ hear_event : (stay : Stay) (calls : List Call) (number : ℕ) (octets : List ℕ
     → event_tokens stay (hear number octets ∷ calls) event ≡ event_tokens stay calls event
 hear_event stay calls number octets event before =
     flat_same (λ at. tokens_of stay event (heard_in stay (hear number octets ∷ calls) at)) (λ at. tokens_of stay event (heard_in stay calls at))
-    (event * stay.info.bn) stay.info.bn
-    (grind (arith, heard_same, entry_outside, event_below))
+    (event * stay.info.bn) stay.info.bn (grind (arith, heard_same, entry_outside, event_below))
 
 pub closed_hear : (stay : Stay) (calls : List Call) (number : ℕ) (octets : List ℕ)
     → closed_tokens stay (hear number octets ∷ calls) ≡ closed_tokens stay calls
@@ -58,8 +56,7 @@ closed_close stay calls =
     let count : opened stay calls + 1 - stay.first ≡ opened stay calls - stay.first + 1 = omega arith in
     let last : stay.first + (opened stay calls - stay.first) ≡ opened stay calls = omega arith in
     flat_same (event_tokens stay (close ∷ calls)) (event_tokens stay calls) stay.first (opened stay calls + 1 - stay.first)
-    (λ event least below. close_event stay calls event)
-    ∙ ap (λ n. flat_map (event_tokens stay calls) (range_with_len stay.first n)) count
+    (λ event least below. close_event stay calls event) ∙ ap (λ n. flat_map (event_tokens stay calls) (range_with_len stay.first n)) count
     ∙ flat_last (event_tokens stay calls) stay.first (opened stay calls - stay.first)
     ∙ ap (λ event. closed_tokens stay calls ++ event_tokens stay calls event) last
 

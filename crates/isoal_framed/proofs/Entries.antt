@@ -144,8 +144,7 @@ scan_run heard closed bis whole (Some run) number segments =
 
 -- the entry of a unit whose start is heard
 pub entry_heard : (stay : Stay) (heard : ℕ → Bool) (closed : ℕ) (unit : Sent) (octets : List ℕ) (segments : List (List ℕ)) → unit.segments ≡ octets ∷ segments
-    → heard unit.first ≡ true → unit.first < closed
-    → entry_of stay heard closed unit
+    → heard unit.first ≡ true → unit.first < closed → entry_of stay heard closed unit
     ≡ scan heard closed stay.bis (time_of stay (unit.first / stay.info.bn) unit.offset) unit.whole (octets_in unit.segments) (unit.first + 1) segments
 entry_heard stay heard closed unit octets segments is here below = grind (arith, cond-true, scan_entry)
 

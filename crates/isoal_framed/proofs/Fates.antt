@@ -27,8 +27,7 @@ whole_after max_sdu prefix (piece ∷ before) last others followed first fits =
     let room : length ((prefix ++ piece.octets) ++ (joined before ++ last)) ≤ max_sdu = subst (λ xs. length xs ≤ max_sdu) (sym same) fits in
     goes max_sdu prefix piece (before ++ record { complete = true; octets = last } ∷ others) followed first.0
     (prefix_fits max_sdu (prefix ++ piece.octets) (joined before ++ last) room)
-    ∙ whole_after max_sdu (prefix ++ piece.octets) before last others followed first.1 room
-    ∙ ap whole same
+    ∙ whole_after max_sdu (prefix ++ piece.octets) before last others followed first.1 room ∙ ap whole same
 
 long_after : (max_sdu : ℕ) (prefix : List ℕ) (before : List Piece) (last : Piece) (others : List Piece) (followed : Bool)
     → NoneComplete before → max_sdu < length (prefix ++ (joined before ++ last.octets))
@@ -90,8 +89,7 @@ tells max_sdu prefix (piece ∷ run) followed = elim (cases_Bool (leb (length (p
   | inr over ↦ subst (Tells max_sdu prefix (piece ∷ run) followed) (sym (stops max_sdu prefix piece run followed over))
       (inl ([], piece, run, refl, tt, leb-false (length (prefix ++ piece.octets)) max_sdu over))
   | inl fits ↦ elim (cases_Bool piece.complete) [
-    | inl complete ↦ subst (Tells max_sdu prefix (piece ∷ run) followed)
-        (sym (cond-true (leb (length (prefix ++ piece.octets)) max_sdu)
+    | inl complete ↦ subst (Tells max_sdu prefix (piece ∷ run) followed) (sym (cond-true (leb (length (prefix ++ piece.octets)) max_sdu)
         (cond piece.complete (whole (prefix ++ piece.octets)) (fate_after max_sdu (prefix ++ piece.octets) run followed)) broken fits
         ∙ cond-true piece.complete (whole (prefix ++ piece.octets)) (fate_after max_sdu (prefix ++ piece.octets) run followed) complete))
         (whole_first max_sdu prefix piece run complete (leb-true (length (prefix ++ piece.octets)) max_sdu fits))

@@ -108,8 +108,7 @@ greedy : ℕ → List Timed → ℕ → List Act → ℕ → List Act
 greedy max_pdu units anchor earlier zero = []
 greedy max_pdu units anchor earlier (suc n) =
     act_of anchor (room max_pdu (greedy max_pdu units anchor earlier n ++ earlier)) (sent (greedy max_pdu units anchor earlier n ++ earlier))
-    (slice_get units (done (greedy max_pdu units anchor earlier n ++ earlier)))
-    ∷ greedy max_pdu units anchor earlier n
+    (slice_get units (done (greedy max_pdu units anchor earlier n ++ earlier))) ∷ greedy max_pdu units anchor earlier n
 
 greedy_more : (max_pdu : ℕ) (units : List Timed) (anchor : ℕ) (earlier : List Act) (n : ℕ) (acts : List Act) → acts ≡ greedy max_pdu units anchor earlier n
     → act_of anchor (room max_pdu (acts ++ earlier)) (sent (acts ++ earlier)) (slice_get units (done (acts ++ earlier))) ∷ acts

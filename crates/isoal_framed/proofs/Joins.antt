@@ -15,8 +15,7 @@ record Joins (max_sdu bis : ℕ) (tokens : List Token) : Type 0 where
 
 hands_piece : (max_sdu bis time : ℕ) (octets : List ℕ) (later : Fate) (tokens : List Token) (rest : List Handed)
     → rest ≡ hands max_sdu bis None tokens
-    → handed_of bis time later ++ rest ≡ hands max_sdu bis (Some (record { time = time; octets = octets })) tokens
-    → (fits complete : Bool)
+    → handed_of bis time later ++ rest ≡ hands max_sdu bis (Some (record { time = time; octets = octets })) tokens → (fits complete : Bool)
     → handed_of bis time (cond fits (cond complete (whole octets) later) broken) ++ rest
     ≡ cond fits (cond complete (valid bis time octets ∷ []) []) (lost bis time ∷ [])
     ++ hands max_sdu bis (cond fits (cond complete None (Some (record { time = time; octets = octets }))) None) tokens
@@ -25,8 +24,7 @@ hands_piece max_sdu bis time octets later tokens rest none some fits complete = 
 run_piece : (max_sdu time : ℕ) (octets : List ℕ) (later : Fate) (tokens : List Token) (rest : Option Run)
     → rest ≡ run_after max_sdu None tokens
     → option_or (run_of time later) rest ≡ run_after max_sdu (Some (record { time = time; octets = octets })) tokens
-    → (fits complete : Bool)
-    → option_or (run_of time (cond fits (cond complete (whole octets) later) broken)) rest
+    → (fits complete : Bool) → option_or (run_of time (cond fits (cond complete (whole octets) later) broken)) rest
     ≡ run_after max_sdu (cond fits (cond complete None (Some (record { time = time; octets = octets }))) None) tokens
 run_piece max_sdu time octets later tokens rest none some fits complete = grind arith
 

@@ -123,8 +123,7 @@ partly_left anchor queue old new unit count false due carried part =
     let less : old.sent + count < length unit.octets = part refl in
     let at : old.past + 0 ≡ old.past = omega arith in
     let here : slice_get (drop old.past queue) 0 ≡ Some unit = get_behind queue old.past 0 ∙ ap (slice_get queue) at ∙ due in
-    subst (λ n. IsPartly n (drop new.past queue)) (sym carried.sent)
-    (grind (arith, none-some, same_Some))
+    subst (λ n. IsPartly n (drop new.past queue)) (sym carried.sent) (grind (arith, none-some, same_Some))
 
 part_of_it : (anchor room sent_now : ℕ) (unit : Timed) (count : ℕ) (complete : Bool) → complete ≡ false
     → Comes (record { anchor = anchor; room = room; due = Some unit; sent = sent_now }) (carries count complete) → sent_now + count < length unit.octets

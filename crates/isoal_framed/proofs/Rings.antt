@@ -20,11 +20,8 @@ pub filled_more : {A B : Type 0} (entry : A → Option B) (items : List A) (item
     → n < capacity → entry item ≡ None → map entry (keep_last capacity (items ++ item ∷ [])) ≡ replicate (n + 1) None
 filled_more entry items item capacity n before below here =
     let count : length items ≡ n = sym (length-map items entry) ∙ ap length before ∙ length-replicate n None in
-    ap (map entry) (kept_last items item capacity (omega arith))
-    ∙ map-append entry items (item ∷ [])
-    ∙ ap (λ xs. xs ++ entry item ∷ []) before
-    ∙ ap (λ x. replicate n None ++ x ∷ []) here
-    ∙ replicate-append-replicate n 1 None
+    ap (map entry) (kept_last items item capacity (omega arith)) ∙ map-append entry items (item ∷ [])
+    ∙ ap (λ xs. xs ++ entry item ∷ []) before ∙ ap (λ x. replicate n None ++ x ∷ []) here ∙ replicate-append-replicate n 1 None
 
 pub filled_count : {A B : Type 0} (entry : A → Option B) (items : List A) (n : ℕ) → map entry items ≡ replicate n None → length items ≡ n
 filled_count entry items n is = sym (length-map items entry) ∙ ap length is ∙ length-replicate n None
@@ -53,8 +50,7 @@ turned_more was now n capacity item before below full first =
     let same : get_or was n item ≡ item = sym (ap (λ xs. get_or xs 0 item) split) ∙ get_or_from_slice_get now 0 item item first in
     ap (λ xs. keep_last capacity (drop 1 xs ++ item ∷ [])) split
     ∙ kept_last (drop (n + 1) was ++ take n was) item capacity (omega (arith, ap length split, as_many was now n before))
-    ∙ append_assoc (drop (n + 1) was) (take n was) (item ∷ [])
-    ∙ ap (λ x. drop (n + 1) was ++ (take n was ++ x ∷ [])) (sym same)
+    ∙ append_assoc (drop (n + 1) was) (take n was) (item ∷ []) ∙ ap (λ x. drop (n + 1) was ++ (take n was ++ x ∷ [])) (sym same)
     ∙ ap (λ xs. drop (n + 1) was ++ xs) (sym (take_more was n item below))
 
 -- what is kept at the places
@@ -70,8 +66,7 @@ pub cleared_more : {A : Type 0} (now : List (Option A)) (n : ℕ) → take n now
 cleared_more now n before below =
     take_more (set now n None) n None (rw length-set below)
     ∙ ap (λ xs. xs ++ get_or (set now n None) n None ∷ []) (take-set now n None ∙ before)
-    ∙ ap (λ x. replicate n None ++ x ∷ []) (get_or-set_same now n None None below)
-    ∙ replicate-append-replicate n 1 None
+    ∙ ap (λ x. replicate n None ++ x ∷ []) (get_or-set_same now n None None below) ∙ replicate-append-replicate n 1 None
 
 -- the first of what is left
 pub first_left : {A : Type 0} (was now : List (Option A)) (n : ℕ) → drop n now ≡ drop n was → get_or now n None ≡ get_or was n None

@@ -45,11 +45,9 @@ start_step max_pdu max_sdu bn laid units anchor number acts parts closed count t
         fit = grind (arith, fit_more, take, take_fits);
         closed_of = subst (λ xs. AreOf bn laid 0 xs
             (closed ++ record { first = number; offset = anchor - unit.time; segments = take count unit.octets ∷ []; whole = true } ∷ []))
-            (sym (take_next units (done acts) unit due))
-            (are_snoc bn laid 0 (done acts) (take (done acts) units) closed unit
+            (sym (take_next units (done acts) unit due)) (are_snoc bn laid 0 (done acts) (take (done acts) units) closed unit
             (record { first = number; offset = anchor - unit.time; segments = take count unit.octets ∷ []; whole = true }) sending.closed_of
-            (taken_before units (done acts) unit due)
-            (grind (arith, append-nil, take, take_all, sent, length)));
+            (taken_before units (done acts) unit due) (grind (arith, append-nil, take, take_all, sent, length)));
         open_of = tt;
       },
       new_stable number (anchor - unit.time) (take count unit.octets) true closed,
@@ -136,8 +134,7 @@ goes_on_step max_pdu max_sdu bn laid units anchor number acts parts closed befor
         closed_of = subst (λ xs. AreOf bn laid 0 xs (closed ++ longer (take count (drop (sent acts) unit.octets)) true before ∷ []))
             (sym (take_next units (done acts) unit due))
             (are_snoc bn laid 0 (done acts) (take (done acts) units) closed unit (longer (take count (drop (sent acts) unit.octets)) true before) sending.closed_of
-            (taken_before units (done acts) unit due)
-            (grind (arith, longer_is, take_all, sent, length, longer_timed, take, drop)));
+            (taken_before units (done acts) unit due) (grind (arith, longer_is, take_all, sent, length, longer_timed, take, drop)));
         open_of = tt;
       },
       further_stable number (take count (drop (sent acts) unit.octets)) true closed before sending.open_is.part at,
@@ -188,8 +185,7 @@ leaves_step max_pdu max_sdu bn laid units number acts parts closed opened sendin
 
 -- a segment
 pub carries_step : (max_pdu max_sdu bn : ℕ) (laid : List Laying) (units : List Timed) (anchor number : ℕ) (acts : List Act) (parts : List Part) (closed : List Sent) (opened : Option Sent)
-    (count : ℕ) (complete : Bool)
-    → ((i : ℕ) → (unit : Timed) → slice_get units i ≡ Some unit → length unit.octets ≤ max_sdu)
+    (count : ℕ) (complete : Bool) → ((i : ℕ) → (unit : Timed) → slice_get units i ≡ Some unit → length unit.octets ≤ max_sdu)
     → (event : ℕ) → event * bn ≤ number → number < event * bn + bn → slice_get laid event ≡ Some (record { anchor = anchor; units = length units })
     → Sending max_pdu max_sdu bn laid units number acts parts closed opened → Comes (place_of max_pdu units anchor acts) (carries count complete)
     → Grown max_pdu max_sdu bn laid units number (carries count complete ∷ acts)

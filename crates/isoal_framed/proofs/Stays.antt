@@ -15,8 +15,7 @@ flat_append f start zero n = grind arith
 flat_append f start (suc m) n =
     let more : suc m + n ≡ suc (m + n) = omega arith in
     let next : start + 1 + m ≡ start + suc m = omega arith in
-    ap (λ k. flat_map f (range_with_len start k)) more
-    ∙ ap (λ xs. f start ++ xs) (flat_append f (start + 1) m n)
+    ap (λ k. flat_map f (range_with_len start k)) more ∙ ap (λ xs. f start ++ xs) (flat_append f (start + 1) m n)
     ∙ sym (append_assoc (f start) (flat_map f (range_with_len (start + 1) m)) (flat_map f (range_with_len (start + 1 + m) n)))
     ∙ ap (λ k. (f start ++ flat_map f (range_with_len (start + 1) m)) ++ flat_map f (range_with_len k n)) next
 
@@ -28,8 +27,7 @@ flat_events f bn first (suc count) =
     let all : suc count * bn ≡ bn + count * bn = omega arith in
     ap (λ xs. flat_map f (range_with_len (first * bn) bn) ++ xs) (flat_events f bn (first + 1) count)
     ∙ ap (λ start. flat_map f (range_with_len (first * bn) bn) ++ flat_map f (range_with_len start (count * bn))) next
-    ∙ sym (flat_append f (first * bn) bn (count * bn))
-    ∙ ap (λ n. flat_map f (range_with_len (first * bn) n)) (sym all)
+    ∙ sym (flat_append f (first * bn) bn (count * bn)) ∙ ap (λ n. flat_map f (range_with_len (first * bn) n)) (sym all)
 
 -- the event of a number
 event_of : (bn event number : ℕ) → 1 ≤ bn → event * bn ≤ number → number < event * bn + bn → number / bn ≡ event
@@ -48,8 +46,7 @@ unfolding toks
 tokens_are stay units calls some source =
     flat_same (event_tokens stay calls)
     (λ event. flat_map (tok stay (is_heard stay calls) (stay.first * stay.info.bn) [] true units) (range_with_len (event * stay.info.bn) stay.info.bn))
-    stay.first (opened stay calls - stay.first)
-    (search (flat_same, tok, tokens_here, event_of))
+    stay.first (opened stay calls - stay.first) (search (flat_same, tok, tokens_here, event_of))
     ∙ flat_events (tok stay (is_heard stay calls) (stay.first * stay.info.bn) [] true units) stay.info.bn stay.first (opened stay calls - stay.first)
 
 -- the event of what is heard is none before the first
@@ -146,5 +143,4 @@ struck_is stay units laid calls some order within fit source =
     ∙ toks_same stay (is_heard stay calls) (stay.first * stay.info.bn) (stay.first * stay.info.bn) [] here.0 true here.1 units here.2
     (stay.first * stay.info.bn) ((opened stay calls - stay.first) * stay.info.bn) here.3.same)
     ∙ shown_from stay (is_heard stay calls) (closed_end stay calls) ((opened stay calls - stay.first) * stay.info.bn) (stay.first * stay.info.bn) count
-    here.0 here.1 here.2 here.3.order here.3.later here.3.last (here.3.fit fit)
-    ∙ sym here.3.entries
+    here.0 here.1 here.2 here.3.order here.3.later here.3.last (here.3.fit fit) ∙ sym here.3.entries

@@ -33,8 +33,7 @@ last_heard : (stay : Stay) (heard : ℕ → Bool) (closed from n : ℕ) (octets 
     → length (run.octets ++ octets_in (octets ∷ [])) ≤ stay.info.max_sdu → from + suc n ≡ closed → (whole ≡ false → (units ≡ []) × (closed ≤ from + 1))
     → hands stay.info.max_sdu stay.bis None
     (map (token_of stay (from / stay.info.bn)) (parts_at units from) ++ toks stay heard (from + 1) [] whole units (from + 1) n)
-    ≡ flat_map (entry_of stay heard closed) units
-    → hands stay.info.max_sdu stay.bis (Some run) (goes_on (whole && true) octets
+    ≡ flat_map (entry_of stay heard closed) units → hands stay.info.max_sdu stay.bis (Some run) (goes_on (whole && true) octets
     ∷ (map (token_of stay (from / stay.info.bn)) (parts_at units from) ++ toks stay heard (from + 1) [] whole units (from + 1) n))
     ≡ scan heard closed stay.bis run.time whole (run.octets ++ octets_in (octets ∷ [])) from (octets ∷ []) ++ flat_map (entry_of stay heard closed) units
 last_heard stay heard closed from n octets true run units is room all last rest = grind (arith, octets_in, append-nil, length, hands, run_joined, map, token_of, parts_at, toks, joined_fits, valid, flat_map, entry_of, scan_heard, scan_end)
@@ -51,8 +50,7 @@ last_heard stay heard closed from n octets false run units is room all last rest
     (map (token_of stay (from / stay.info.bn)) (parts_at us from) ++ toks stay heard (from + 1) [] false us (from + 1) n)) none
     ∙ ap (λ k. hands stay.info.max_sdu stay.bis (run_joined stay.info.max_sdu run.time false (run.octets ++ octets)) (toks stay heard (from + 1) [] false [] (from + 1) k)) count
     ∙ ap (hands stay.info.max_sdu stay.bis (run_joined stay.info.max_sdu run.time false (run.octets ++ octets))) (toks_none stay heard (from + 1) [] false [] (from + 1))
-    ∙ ap (flat_map (entry_of stay heard closed)) (sym none)
-    ∙ ap (λ xs. xs ++ flat_map (entry_of stay heard closed) units)
+    ∙ ap (flat_map (entry_of stay heard closed)) (sym none) ∙ ap (λ xs. xs ++ flat_map (entry_of stay heard closed) units)
     (sym (scan_heard heard closed stay.bis run.time false (run.octets ++ octets_in (octets ∷ [])) from octets [] (omega arith) is
     ∙ scan_end heard closed stay.bis run.time false (run.octets ++ octets_in (octets ∷ [])) (from + 1)))
 
@@ -64,11 +62,9 @@ more_joined max_sdu bis run octets tokens fits = grind (arith, joined_fits)
 -- the last segment, whether the run stands or not
 last_run : (stay : Stay) (heard : ℕ → Bool) (closed from n : ℕ) (octets : List ℕ) (whole : Bool) (run : Option Run) (units : List Sent) → heard from ≡ true
     → ((r : Run) → run ≡ Some r → length (r.octets ++ octets_in (octets ∷ [])) ≤ stay.info.max_sdu) → from + suc n ≡ closed
-    → (whole ≡ false → (units ≡ []) × (closed ≤ from + 1))
-    → hands stay.info.max_sdu stay.bis None
+    → (whole ≡ false → (units ≡ []) × (closed ≤ from + 1)) → hands stay.info.max_sdu stay.bis None
     (map (token_of stay (from / stay.info.bn)) (parts_at units from) ++ toks stay heard (from + 1) [] whole units (from + 1) n)
-    ≡ flat_map (entry_of stay heard closed) units
-    → hands stay.info.max_sdu stay.bis run (goes_on (whole && true) octets
+    ≡ flat_map (entry_of stay heard closed) units → hands stay.info.max_sdu stay.bis run (goes_on (whole && true) octets
     ∷ (map (token_of stay (from / stay.info.bn)) (parts_at units from) ++ toks stay heard (from + 1) [] whole units (from + 1) n))
     ≡ scan_run heard closed stay.bis whole run from (octets ∷ []) ++ flat_map (entry_of stay heard closed) units
 last_run stay heard closed from n octets whole run units is fits all last rest = grind (arith, last_heard)

@@ -2,7 +2,7 @@
 use Rattle.replay_lines.proofs.Prelude.{◌≡◌, ◌≢◌, ℕ, List, Option, Some, Result, Ok, Err, ReadsDocument, Unread, Promised, World, Ending, Account, DocumentIs, DocumentLaws, FromToml, TomlEnding, Standing, refused_for, stands_for, cause_line, DocumentRuns, over_text, arith}
 use Rattle.bcast_io.specs.declared.document.Document.{Document}
 use Rattle.replay_lines.specs.declared.ending.Ending.TheVariants as endings
-use Rattle.replay_lines.proofs.Refusing.{refused_toml}
+use Rattle.replay_lines.proofs.Unread.{refused_toml}
 use Rattle.replay_lines.proofs.Running.{ending_is, never_fails, ran_toml}
 use Rattle.replay_lines.proofs.Endings.{prefix_none}
 

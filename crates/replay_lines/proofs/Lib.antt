@@ -1,11 +1,9 @@
 pub mod Citable
 mod Prelude
 mod Completing
-mod Counting
 mod DocumentPromises
 mod Endings
 mod Prefixes
-mod Hearing
 mod LineEndings
 mod LineSteps
 mod Listening
@@ -14,7 +12,5 @@ mod Promises
 mod Reading
 mod ReadingOn
 mod RefusalLaws
-mod Refusing
 mod Running
 mod Unread
-mod Unassigned

@@ -1,8 +1,9 @@
 -- What the loop of `replay` does at a line, put together.
-use Rattle.replay_lines.proofs.Prelude.{◌≡◌, ◌≢◌, ℕ, ◌+◌, ◌≤◌, Bool, false, true, List, [], ◌∷◌, length, refl, sym, subst, arith, Option, None, Some, Ok, TextLine, plain, too_long, past, text_limit, Reading, lines_left, LineRead, Line, LineTooLong, TextTooLong, End, Account, airs_of, Ending, Machine, steps_of, UnassignedSame, unassigned_line, LinesStand, Comes, ReadsAhead, Ended, as_told, ReadTo, TextIs, NextIs, RunTo, Refuses, StepHeard, LineRuns, Appends-nothing}
+use Rattle.replay_lines.proofs.Prelude.{◌≡◌, ◌≢◌, ℕ, ◌+◌, ◌≤◌, Bool, false, true, List, [], ◌∷◌, length, refl, sym, subst, arith, Option, None, Some, Ok, TextLine, plain, too_long, past, text_limit, Reading, lines_left, LineRead, Line, LineTooLong, TextTooLong, End, Account, airs_of, Ending, Machine, steps_of, UnassignedSame, unassigned_line, LinesStand, Comes, ReadsAhead, Ended, as_told, ReadTo, TextIs, NextIs, RunTo, Refuses, StepHeard, LineRuns, Appends-nothing, ◌++◌, reverse, ap, ◌∙◌, append_assoc, IsAtEnd, MayFollow, lines_after, lines_of, UnassignedRun}
 use Rattle.transcript_text.specs.declared.refusal.Refusal.TheVariants as refusals
 use Rattle.replay_lines.proofs.ReadingOn.{read_none, comes_of, ahead_of}
 use Rattle.replay_lines.proofs.LineEndings.{ends_refusal}
+use Rattle.replay_lines.proofs.Completing.{told}
 
 -- ---- a line
 
@@ -90,3 +91,31 @@ module _ {A : Type 0} {olds mids : List A} {starts before : List Account} {left 
   running_ends ending some =
       let P : Option Ending → Type 0 = λ x. LineRuns may_fail starts r.lines left left' kept kept' new machine' after x in
       subst P some (runs r.lines r.is_next r.read r.run)
+
+-- ---- the boxes that no line of a text took, where its source tells it
+
+-- the lines of a text are those that were read and then others
+lines_told : (text : List ℕ) (left left' : Option (List ℕ)) (lines : List TextLine) (reader : Reading) → left ≡ Some text → ReadTo left left' lines reader
+    → (later : List TextLine) × (lines_of true text ≡ reverse lines ++ later)
+lines_told text left left' lines reader is r =
+    let t = told text left left' (r.passed ++ reader.ahead) is r.consumed in
+    let more : List ℕ = reader.ahead ++ t.0 in
+    let all : text ≡ r.passed ++ more = t.2 ∙ append_assoc r.passed reader.ahead t.0 in
+    let follows : MayFollow reader.over true more =
+    λ over. (refl, ap (λ prefix. prefix ++ t.0) (r.sound.ended over).0 ∙ subst IsAtEnd t.1 (r.at_end over)) in
+    (lines_after true reader more, ap (lines_of true) all ∙ r.begins true more follows)
+
+-- the last line was run
+pub unassigned_at : {A : Type 0} {olds mids : List A} {starts accounts : List Account} {left mid kept kept' : Option (List ℕ)} {number : ℕ}
+    {reader : Reading} {machine : Machine} (news : List A) (r : Running olds mids starts accounts left mid kept kept' number reader machine)
+    → ((lines : List TextLine) → LinesStand starts lines machine accounts → UnassignedSame (steps_of airs_of lines) mids news)
+    → (text : List ℕ) → left ≡ Some text → UnassignedRun starts (lines_of true text) olds news
+unassigned_at {left = left} {mid = mid} {reader = reader} news r same text is =
+    let at = lines_told text left mid r.lines reader is r.read in
+    record {
+      earlier = r.lines;
+      later = at.0;
+      split = at.1;
+      accepted = r.run.accepted;
+      same = λ box least. same r.lines r.run.stands box least ∙ r.unassigned box least;
+    }

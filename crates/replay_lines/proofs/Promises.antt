@@ -1,8 +1,7 @@
 -- What is promised of a run, from what it did.
 use Rattle.replay_lines.proofs.Prelude.{true, lines_of, took_as, ◌≡◌, ◌≢◌, ℕ, Some, Refusal, IsWhole, List, refl, subst, TextLine, Account, Rose, airs_of, Airs, MeetAirs, transcript_of, Ending, Promised, Did, DidOver, ReadsAtMost, read_limit, AllSame, Laws, World, arith}
 use Rattle.replay_lines.specs.declared.ending.Ending.TheVariants as endings
-use Rattle.replay_lines.proofs.Completing.{ended_whole, ended_ahead, ended_complete}
-use Rattle.replay_lines.proofs.Counting.{ended_counts, ended_one}
+use Rattle.replay_lines.proofs.Completing.{ended_whole, ended_ahead, ended_complete, ended_counts, ended_one}
 use Rattle.replay_lines.proofs.Endings.{ends_at_once}
 use Rattle.replay_lines.proofs.OtherAirs.{ahead_as, complete_as, counts_as, ended_as}
 use Rattle.replay_lines.proofs.ReadingOn.{none_within}

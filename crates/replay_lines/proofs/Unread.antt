@@ -1,8 +1,10 @@
--- What is promised where a document wasn't read, and of the laws.
-use Rattle.replay_lines.proofs.Prelude.{Account, None, ◌≡◌, ℕ, ◌+◌, true, List, refl, Option, Ok, arith, Rose, ReadPrefix, document_limit, Promised, World, Ending, lines_of, AppendsPrefix, AppendsPrefix-nothing, MeetAirs, Airs, none_counts, DocumentLaws, FromToml, Standing, refused_for, stands_for, transcript_over}
+-- What is promised where a document wasn't read or is refused, and of the laws.
+use Rattle.replay_lines.proofs.Prelude.{Account, None, ◌≡◌, ℕ, ◌+◌, true, List, refl, Option, Ok, arith, Rose, ReadPrefix, document_limit, Promised, World, Ending, lines_of, AppendsPrefix, AppendsPrefix-nothing, MeetAirs, Airs, none_counts, DocumentLaws, FromToml, Standing, refused_for, stands_for, transcript_over, Some, [], Err, inl, Appends, Took, took_all, took_stay, DocumentIs, Cut, TomlComplete, TomlEnding, Written, cause_line, RefusesDocument}
 use Rattle.replay_lines.specs.declared.ending.Ending.TheVariants as endings
 use Rattle.replay_lines.specs.FromToml.{Unread}
 use Rattle.replay_lines.proofs.Endings.{keeps_same}
+use Rattle.replay_lines.specs.declared.cause.Cause.{Cause}
+use Rattle.replay_lines.proofs.Reading.{document_told, prefix_read}
 
 -- the laws that are promised of every run
 pub laws_of : (old new : World) (ending : Ending) → Promised old new ending → DocumentLaws old.boxes
@@ -41,3 +43,37 @@ module _ (old : World) (left : Option (List ℕ)) (reads : ℕ) where
   pub wanting_toml : ReadPrefix (document_limit + 1) old.left left → reads ≡ old.reads → DocumentLaws old.boxes
       → FromToml old (after_reads old left reads) (Ok endings.Memory)
   wanting_toml prefix same laws = grind (arith, none_written, none_counts)
+
+-- ---- a document that is refused before any line of it is run
+
+module _ (old new : World) (cause : Cause) (result : TomlEnding) (document : DocumentIs old.left new.left (refused_for cause))
+    (put : RefusesDocument cause old.boxes new.boxes old.taken new.taken old.writes new.writes result) where
+  took_none : Took old.boxes new.boxes []
+  took_none = rw put.boxes (took_all old.boxes [])
+
+  cut_of : AppendsPrefix old.taken new.taken (cause_line cause) → Cut old new
+  cut_of prefix = λ airs meets. record {
+    standing = refused_for cause;
+    document = document;
+    written = prefix;
+    boxes = inl (record { done = []; rest = []; split = refl; boxes = took_none });
+  }
+
+  written_of : Appends old.taken new.taken (cause_line cause) → Written (Err cause) old new
+  written_of written airs meets = record {
+    standing = refused_for cause;
+    document = document;
+    ends_so = refl;
+    written = written;
+    boxes = took_none;
+  }
+
+  complete_at : (airs : Airs) → TomlComplete airs (refused_for cause) old.boxes new.boxes old.reads new.reads old.writes new.writes result
+  complete_at airs = grind (arith, put)
+
+  pub refused_toml : new.reads ≡ old.reads → DocumentLaws old.boxes → FromToml old new result
+  refused_toml reads laws =
+      let told = λ (text : List ℕ) (tells : old.left ≡ Some text). document_told old.left new.left text tells (refused_for cause)
+      document in
+      let prefix = prefix_read old.left new.left (refused_for cause) document in
+      grind (arith, cut_of, written_of, none_counts, took_stay, took_none, complete_at, told)

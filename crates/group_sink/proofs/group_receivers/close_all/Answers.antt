@@ -1,5 +1,4 @@
-use Rattle.std.proofs.Common.{arith}
-use Rattle.group_sink.proofs.Prelude.{◌∙◌, ap, owed_by, tick_at}
+use Rattle.group_sink.proofs.Prelude.{◌∙◌, ap, owed_by, tick_at, arith}
 use Rattle.group_sink.proofs.Handing.{caused_more, caused_past, handed_more, handed_past, written_more}
 use Rattle.group_sink.proofs.group_receivers.close_all.Goals as goal
 use Rattle.group_sink.proofs.group_receivers.close_all.Goals.{in-Ok, in-Err}

@@ -1,5 +1,4 @@
-use Rattle.std.proofs.Common.{◌<◌, ◌^◌, subst, arith}
-use Rattle.std.proofs.lemmas.Nat.{leading_length}
+use Rattle.group_sink.proofs.Prelude.{◌<◌, ◌^◌, subst, arith, leading_length}
 use Rattle.std.proofs.lemmas.Nat.Bits.{bit_at_above}
 use Rattle.group_sink.proofs.group_receivers.last_of.Goals as goal
 

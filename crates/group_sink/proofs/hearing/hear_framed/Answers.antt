@@ -1,4 +1,4 @@
-use Rattle.std.proofs.Common.{arith}
+use Rattle.group_sink.proofs.Prelude.{arith}
 use Rattle.group_sink.proofs.Events.{heard_more}
 use Rattle.group_sink.proofs.hearing.hear_framed.Goals as goal
 

@@ -1,5 +1,4 @@
-use Rattle.group_sink.proofs.Prelude.{◌≡◌, hear_first}
-use Rattle.group_sink.specs.declared.receiver.Receiver.TheVariants.{Framed}
+use Rattle.group_sink.proofs.Prelude.{◌≡◌, hear_first, Framed}
 use Rattle.group_sink.proofs.hearing.hear_framed.Given as goal
 
 abbrev pub invariant-subevents : goal.invariant-subevents

@@ -1,5 +1,4 @@
-use Rattle.group_sink.proofs.Prelude.{◌≡◌, hear_first}
-use Rattle.group_sink.specs.declared.receiver.Receiver.TheVariants.{Unframed}
+use Rattle.group_sink.proofs.Prelude.{◌≡◌, hear_first, Unframed}
 use Rattle.group_sink.proofs.hearing.hear_unframed.Given as goal
 
 abbrev pub invariant-subevents : goal.invariant-subevents

@@ -1,4 +1,4 @@
-use Rattle.std.proofs.Common.{arith}
+use Rattle.group_sink.proofs.Prelude.{arith}
 use Rattle.group_sink.proofs.Offsets.{first_number}
 use Rattle.group_sink.proofs.numbers.offset.Goals as goal
 

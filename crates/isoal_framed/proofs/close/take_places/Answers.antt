@@ -29,6 +29,5 @@ places-preserved g c =
           (left_more (tokens_of (stay_of c.args.stream.now) c.args.event) (kept_of c.args.store.now.places) c.places.index (c.args.count - c.places.index)
           (c.args.count - (c.places.index + 1)) below (omega (arith, c.places-test.true)))
           (grind (arith, run_after, run_in, tokens_of, stay_of, read_as, segmented, vec_len))
-          (grind (arith, hands, vec_len, run_in, tokens_of, stay_of, read_as, segmented))
-          c.take_pdu-handed.ensures.cause;
+          (grind (arith, hands, vec_len, run_in, tokens_of, stay_of, read_as, segmented)) c.take_pdu-handed.ensures.cause;
     }

@@ -27,5 +27,4 @@ returns-clause-packed c units earlier acts queue_is start =
     subst (Placed c.args.anchor c.args.queue.now.items c.acts.packing c.put_next.new.packing) c.if-branch.false c.in_ok-put_next.ensures.placed in
     let was : (own : List Act) × (pdus_ended own ≡ pdus_ended acts) × At c.args.max_pdu units c.args.anchor earlier own c.args.pdus.now c.acts.packing =
     c.acts.invariant.going units earlier acts c.args.pdus.now queue_is start in
-    on_ok_weaker c.push.result
-    (grind (arith, ended_is)) c.push.ensures.ok
+    on_ok_weaker c.push.result (grind (arith, ended_is)) c.push.ensures.ok

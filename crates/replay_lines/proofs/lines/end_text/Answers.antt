@@ -11,5 +11,4 @@ pub returns-clause-ends : goal.returns-clause-ends
 returns-clause-ends g c =
     λ starts lines left left' kept accounts e t r.
     ends_no_end e t r (sym (c.is_over.ensures starts lines accounts r.stands) ∙ c.if-is_over.false)
-    (g.K.ByteSink.contents c.refuse.new.sink)
-    c.refuse.result c.refuse.ensures.refuses
+    (g.K.ByteSink.contents c.refuse.new.sink) c.refuse.result c.refuse.ensures.refuses

@@ -1,6 +1,5 @@
 use Rattle.replay_lines.proofs.Prelude.{◌∷◌, inl, inr, plain, listened}
-use Rattle.replay_lines.proofs.Hearing.{broken_before, failed_told, run_kept, step_told, wanted_told}
-use Rattle.replay_lines.proofs.Listening.{has_run, told_at, told_before}
+use Rattle.replay_lines.proofs.Listening.{has_run, told_at, told_before, broken_before, failed_told, run_kept, step_told, wanted_told}
 use Rattle.replay_lines.proofs.lines.hear_step.Goals as goal
 
 pub returns-in-Ok-clause-runs : goal.returns-in-Ok-clause-runs

@@ -1,16 +1,14 @@
 use Rattle.replay_lines.proofs.Prelude.{arith, ◌∙◌, ap, map, Ok, plain, airs_of, listened}
 use Rattle.replay_lines.proofs.Endings.{ends_faulted}
-use Rattle.replay_lines.proofs.Hearing.{ended_told}
 use Rattle.replay_lines.proofs.LineSteps.{line_read, line_ahead, step_line}
 use Rattle.replay_lines.specs.declared.ending.Ending.TheVariants as endings
-use Rattle.replay_lines.proofs.Listening.{told_line}
+use Rattle.replay_lines.proofs.Listening.{told_line, ended_told}
 use Rattle.replay_lines.proofs.ReadingOn.{comes_of}
 use Rattle.replay_lines.proofs.lines.run_line.Goals as goal
 
 pub returns-in-Err-clause-runs : goal.returns-in-Err-clause-runs
 returns-in-Err-clause-runs g c =
-    λ starts lines left kept e read run.
-    ended_told airs_of starts _ left _ kept _ g.L.Listener.may_fail endings.ReadFault
+    λ starts lines left kept e read run. ended_told airs_of starts _ left _ kept _ g.L.Listener.may_fail endings.ReadFault
     (ends_faulted (rw c.in-Err.is at (c.read_next.ensures.next left lines read)) run)
 
 pub returns-in-Ok-clause-runs : goal.returns-in-Ok-clause-runs
@@ -47,7 +45,6 @@ returns-in-Ok-Line-clause-told g c =
     let left' = g.S.ByteSource.left c.read_next.new.source in
     let new = listened g.L.Listener.told g.L.Listener.rows c.hear_step.new.listener c.hear_step.new.sink in
     let at = line_read c.line.result.now (rw (c.in-Ok-Line.is ∙ ap Ok c.in-Ok-Line.field-0-is) at
-    (c.read_next.ensures.next left lines read))
-    c.line.ensures.value in
+    (c.read_next.ensures.next left lines read)) c.line.ensures.value in
     told_line g.L.Listener.row_of left left' start new lines (plain c.line.result.now) c.read_next.new.reader c.hear_step.result at
     (c.hear_step.ensures.told lines left left' start e (comes_of at) has)

@@ -1,10 +1,8 @@
 use Rattle.replay_lines.proofs.Prelude.{◌∙◌, Some, ap, map, refl, arith, none_run, listened}
 use Rattle.replay_lines.proofs.Endings.{ends_at_once}
-use Rattle.replay_lines.proofs.Hearing.{wanted_told}
 use Rattle.replay_lines.proofs.ReadingOn.{none_within}
-use Rattle.replay_lines.proofs.LineSteps.{running_none, bound_none, running_more, running_ends}
-use Rattle.replay_lines.proofs.Listening.{has_none, telling_ends, telling_more, telling_none}
-use Rattle.replay_lines.proofs.Unassigned.{unassigned_at}
+use Rattle.replay_lines.proofs.LineSteps.{running_none, bound_none, running_more, running_ends, unassigned_at}
+use Rattle.replay_lines.proofs.Listening.{has_none, telling_ends, telling_more, telling_none, wanted_told}
 use Rattle.replay_lines.proofs.lines.run_lines.Goals as goal
 
 pub returns-in_default : goal.returns-in_default

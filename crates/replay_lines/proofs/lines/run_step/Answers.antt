@@ -6,8 +6,7 @@ pub returns-in-Ok-clause-runs : goal.returns-in-Ok-clause-runs
 returns-in-Ok-clause-runs g c =
     λ starts lines left left' kept e comes ahead run.
     run_ok e comes ahead run c.line.new.self _ c.clear.new.self c.line.new.text c.line.result c.clear.ensures
-    (c.line.ensures.meets starts lines)
-    c.in-Ok.field-0 (g.K.ByteSink.contents c.put.new.sink) c.put.result c.in-Ok.is c.put.ensures.puts
+    (c.line.ensures.meets starts lines) c.in-Ok.field-0 (g.K.ByteSink.contents c.put.new.sink) c.put.result c.in-Ok.is c.put.ensures.puts
 
 pub returns-in-Err-Refused-clause-runs : goal.returns-in-Err-Refused-clause-runs
 returns-in-Err-Refused-clause-runs g c =

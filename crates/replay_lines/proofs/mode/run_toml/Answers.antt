@@ -4,8 +4,7 @@ use Rattle.bcast_io.specs.declared.piece.Unread.TheVariants.{Failed, Memory}
 use Rattle.replay_lines.specs.declared.cause.Cause.TheVariants as causes
 use Rattle.replay_lines.proofs.DocumentPromises.{ran_unfailed, read_at, read_toml}
 use Rattle.replay_lines.proofs.Reading.{document_told, whole_is}
-use Rattle.replay_lines.proofs.Refusing.{refused_toml}
-use Rattle.replay_lines.proofs.Unread.{failed_toml, laws_at, wanting_toml}
+use Rattle.replay_lines.proofs.Unread.{failed_toml, laws_at, wanting_toml, refused_toml}
 use Rattle.replay_lines.proofs.mode.run_toml.Goals as goal
 
 pub returns-in-Ok-Whole-clause-promised : goal.returns-in-Ok-Whole-clause-promised

@@ -1,5 +1,5 @@
 use Rattle.replay_lines.proofs.Prelude.{[], true, lines_of, unassigned_run}
-use Rattle.replay_lines.proofs.Hearing.{heard_run}
+use Rattle.replay_lines.proofs.Listening.{heard_run}
 use Rattle.replay_lines.proofs.text.run_heard.Goals as goal
 
 pub returns-clause-heard : goal.returns-clause-heard

@@ -1,5 +1,4 @@
-use Rattle.group_sink.proofs.Prelude.{ℕ, ◌≡◌, ◌≤◌, ◌<◌, ◌-◌, true, false, length, set, ◌∙◌, ap, sym, refl, arith, fresh, is_in, stay_on, Receiver}
-use Rattle.std.specs.Int.{bit_at}
+use Rattle.group_sink.proofs.Prelude.{ℕ, ◌≡◌, ◌≤◌, ◌<◌, ◌-◌, true, false, length, set, ◌∙◌, ap, sym, refl, arith, fresh, is_in, stay_on, Receiver, bit_at}
 use Rattle.group_sink.proofs.Places.{all_places, all_streams, free_is, places_kept, places_more, streams_kept, streams_more, taken_is}
 use Rattle.group_sink.proofs.group_receivers.GroupReceivers.new.Goals as goal
 

@@ -1,5 +1,4 @@
-use Rattle.std.proofs.Common.{arith}
-use Rattle.group_sink.proofs.Prelude.{hear}
+use Rattle.group_sink.proofs.Prelude.{hear, arith}
 use Rattle.group_sink.proofs.Standing.{some_answers, some_hears}
 use Rattle.group_sink.proofs.group_sink.GroupSink.hear.Goals as goal
 

@@ -1,5 +1,4 @@
-use Rattle.std.proofs.Common.{arith}
-use Rattle.group_sink.proofs.Prelude.{heard_calls}
+use Rattle.group_sink.proofs.Prelude.{heard_calls, arith}
 use Rattle.group_sink.proofs.Standing.{none_hears, some_hears_all}
 use Rattle.group_sink.proofs.group_sink.GroupSink.hear_event.Goals as goal
 

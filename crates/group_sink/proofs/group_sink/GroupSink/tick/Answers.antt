@@ -1,5 +1,4 @@
-use Rattle.std.proofs.Common.{arith}
-use Rattle.group_sink.proofs.Prelude.{tick}
+use Rattle.group_sink.proofs.Prelude.{tick, arith}
 use Rattle.group_sink.proofs.Standing.{some_hands, some_ticks}
 use Rattle.group_sink.proofs.group_sink.GroupSink.tick.Goals as goal
 

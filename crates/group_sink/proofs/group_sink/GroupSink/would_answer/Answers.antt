@@ -1,4 +1,4 @@
-use Rattle.std.proofs.Common.{arith}
+use Rattle.group_sink.proofs.Prelude.{arith}
 use Rattle.group_sink.proofs.Standing.{some_answers}
 use Rattle.group_sink.proofs.group_sink.GroupSink.would_answer.Goals as goal
 

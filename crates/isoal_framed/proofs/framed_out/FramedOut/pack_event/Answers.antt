@@ -5,8 +5,7 @@ use Rattle.isoal_framed.proofs.framed_out.FramedOut.pack_event.Goals as goal
 
 pub returns-clause-laid : goal.returns-clause-laid
 returns-clause-laid c info calls air stands =
-    IfOk-weaker c.pack_next.result
-    (λ event. (own : List Act) × IsEvent c.args.self.now.info (accepted calls) c.args.anchor stands.acts own
+    IfOk-weaker c.pack_next.result (λ event. (own : List Act) × IsEvent c.args.self.now.info (accepted calls) c.args.anchor stands.acts own
     × (laid_in event ≡ event_of (accepted calls) c.args.anchor stands.acts (ends ∷ own))
     × (c.pack_next.new.self ≡ record c.args.self.now { units = drop (done (own ++ stands.acts)) (accepted calls); sent = sent (own ++ stands.acts) }))
     (λ event. (begun : ℕ) × StandsFor info (lay c.args.anchor ∷ calls) (record { event = laid_in event; begun = begun } ∷ air) c.pack_next.new.self)

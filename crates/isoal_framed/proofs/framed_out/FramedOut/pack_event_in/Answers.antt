@@ -12,5 +12,4 @@ returns-clause-laid c info calls air stands =
     (λ stale. (begun : ℕ) × StandsFor info (lay c.args.anchor ∷ calls)
     (record { event = record { pdus = c.pack_next_in.new.pdus; stale = stale }; begun = begun } ∷ air) c.pack_next_in.new.self)
     (λ stale laid. lay_stands info calls air c.args.self.now c.pack_next_in.new.self c.args.anchor
-    (record { pdus = c.pack_next_in.new.pdus; stale = stale }) laid.0 stands laid.1 (sym laid.2) laid.3)
-    (grind (arith, room_between))
+    (record { pdus = c.pack_next_in.new.pdus; stale = stale }) laid.0 stands laid.1 (sym laid.2) laid.3) (grind (arith, room_between))
