@@ -1,2 +1,3 @@
 pub mod Frequent
 pub mod Operations
+pub mod SinkLines

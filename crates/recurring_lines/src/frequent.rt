@@ -1,6 +1,5 @@
-//! The lines that come again and again, read without a whole step.
-ghost use Rattle.std.specs.Prelude.{◌≡◌, ◌≤◌, ◌+◌, ◌∷◌, ◌++◌, ℕ, List, [], true, Ok, Some, IfOk, IfSome, IsErr, codes};
-ghost use Rattle.scenario_words.specs.Joined.{space};
+//! The lines of units and events, read without a whole step.
+ghost use Rattle.std.specs.Prelude.{◌≡◌, ◌++◌, ℕ, List, true, Ok, Some, IfOk, IfSome, IsErr, codes};
 ghost use Rattle.scenario_text.specs.Ranges.{IsInRange};
 ghost use Rattle.scenario_text.specs.Steps.{at_row, read_of};
 ghost use Rattle.scenario_text.specs.Table.{unit_row, air_row};
@@ -11,7 +10,7 @@ use bcast_base::{Bis, Memory, Octets};
 use scenario_words::{Cursor, LineFault, is_word};
 use std::alloc::Global;
 
-/// What a line says that comes again and again.
+/// What a line says of a unit or an event.
 #[derive(Clone, Copy)]
 pub enum Frequent {
     /// A unit of a stream, with a time in µs or none. Its octets are read apart.
@@ -20,21 +19,10 @@ pub enum Frequent {
     Event,
     /// A sink hears all PDUs of the last event but the lost ones: none where `lose` is 0, else of each `lose` PDUs the last.
     Air { sink: u8, lose: u8 },
-    /// A sink hears the train of the chosen source.
-    Announce { sink: u8 },
-    /// A sink serves the first write that waits on its first link.
-    Serve { sink: u8 },
-    /// The first notice that waits on the first link of a sink is delivered.
-    Tell { sink: u8 },
-    /// The first link of a sink is drained.
-    Drain { sink: u8 },
-    /// A sink loses its train.
-    Lose { sink: u8 },
 }
 
-/// Reads a line that says a unit, the next event, `air`, `announce`, `serve`, `tell`, `drain` or `lose`, which are the same in each
-/// version. The octets of a unit take the place of `spare`. For any other line, and for one that doesn't fit, the answer is None, and
-/// nothing is said of `spare`.
+/// Reads a line that says a unit, the next event or `air`, which are the same in each version. The octets of a unit take the place of
+/// `spare`. For any other line, and for one that doesn't fit, the answer is None, and nothing is said of `spare`.
 pub fn read_frequent(
     alloc: Global,
     spare: &mut Octets,
@@ -49,7 +37,13 @@ pub fn read_frequent(
     if let Some(words) = behind(b"unit ", line) {
         return of_unit(alloc, spare, words);
     }
-    Ok(of_few(line))
+    if is_word(line, b"event") {
+        return Ok(Some(Frequent::Event));
+    }
+    if let Some(words) = behind(b"air ", line) {
+        return Ok(of_air(words));
+    }
+    Ok(None)
 }
 
 /// What stands behind these octets, where a line begins with them.
@@ -65,20 +59,6 @@ pub(crate) fn behind<'a>(name: &[u8], line: &'a [u8]) -> Option<&'a [u8]>
         return None;
     }
     Some(&line[count..])
-}
-
-/// What a line says that brings no octets.
-fn of_few(line: &[u8]) -> Option<Frequent>
-    ensures { (octets : List ℕ) → IfSome result (λ frequent. (version : ℕ)
-        → read_of version line.now ≡ Ok (Some (frequent_step frequent octets))) }
-{
-    if is_word(line, b"event") {
-        return Some(Frequent::Event);
-    }
-    if let Some(words) = behind(b"air ", line) {
-        return of_air(words);
-    }
-    of_a_sink(line)
 }
 
 /// What the line of a unit says, by what stands behind its first word.
@@ -98,6 +78,7 @@ fn of_unit(alloc: Global, spare: &mut Octets, words: &[u8]) -> Result<Option<Fre
 }
 
 /// What the line of `air` says, by what stands behind its first word.
+#[inline(always)]
 fn of_air(words: &[u8]) -> Option<Frequent>
     ensures { (octets : List ℕ) → IfSome result (λ frequent. (version : ℕ)
         → read_of version (codes "air " ++ words.now) ≡ Ok (Some (frequent_step frequent octets))) }
@@ -108,53 +89,6 @@ fn of_air(words: &[u8]) -> Option<Frequent>
         return None;
     }
     Some(frequent)
-}
-
-/// What a line says that is a first word, a space and the digit of a sink.
-#[inline(always)]
-fn of_a_sink(line: &[u8]) -> Option<Frequent>
-    ensures { (octets : List ℕ) → IfSome result (λ frequent. (version : ℕ)
-        → read_of version line.now ≡ Ok (Some (frequent_step frequent octets))) }
-{
-    if line.len() < 6 {
-        return None;
-    }
-    let end = line.len() - 2;
-    let digit = line[end + 1];
-    if line[end] != b' ' {
-        return None;
-    }
-    if digit < b'0' {
-        return None;
-    }
-    if digit > b'7' {
-        return None;
-    }
-    of_name(&line[..end], digit - b'0')
-}
-
-/// What it says, by its first word and its sink.
-fn of_name(name: &[u8], sink: u8) -> Option<Frequent>
-    requires { sink ≤ 7 }
-    ensures { (octets : List ℕ) → IfSome result (λ frequent. (version : ℕ)
-        → read_of version (name.now ++ space ∷ (48 + sink) ∷ []) ≡ Ok (Some (frequent_step frequent octets))) }
-{
-    if is_word(name, b"serve") {
-        return Some(Frequent::Serve { sink });
-    }
-    if is_word(name, b"tell") {
-        return Some(Frequent::Tell { sink });
-    }
-    if is_word(name, b"drain") {
-        return Some(Frequent::Drain { sink });
-    }
-    if is_word(name, b"lose") {
-        return Some(Frequent::Lose { sink });
-    }
-    if is_word(name, b"announce") {
-        return Some(Frequent::Announce { sink });
-    }
-    None
 }
 
 /// `B TIME OCTETS` of a unit, where these words fit.

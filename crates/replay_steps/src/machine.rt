@@ -5,14 +5,14 @@ ghost use Rattle.scenario_text.specs.Lines.{LineIs};
 ghost use Rattle.scenario_text.specs.Ranges.{IsInRange};
 ghost use Rattle.scenario_text.specs.declared.step.Step.{Step as Said};
 ghost use Rattle.recurring_lines.specs.Frequent.{frequent_step};
-ghost use Rattle.scenario_sink.specs.SinkCalls.{call_step};
-ghost use Rattle.scenario_sink.specs.SinkLines.{IsSinkLine};
+ghost use Rattle.recurring_lines.specs.SinkLines.{sink_line_step};
 
 use crate::operations::read_of_source;
 use crate::source_steps::give;
 use crate::version::Stage;
 use bcast_base::{Memory, Octets};
-use recurring_lines::{Frequent, OperationRoom, TrainRoom, read_frequent, read_train};
+use recurring_lines::{Frequent, OperationRoom, SinkLine, TrainRoom};
+use recurring_lines::{read_frequent, read_sink_line, read_train};
 use scenario_lines::{LineFault, read_line_over};
 use scenario_sink::SinkCall;
 use scenario_sinks::{Relays, Sinks};
@@ -120,25 +120,7 @@ impl Machine {
             }
             Frequent::Event => self.event(outlets, text),
             Frequent::Air { sink, lose } => self.air(sink, lose),
-            Frequent::Announce { sink } => self.announce(sink, text),
-            Frequent::Serve { .. }
-            | Frequent::Tell { .. }
-            | Frequent::Drain { .. }
-            | Frequent::Lose { .. } => self.frequent_of_sink(frequent, text),
         }
-    }
-
-    /// The same for a line of a sink's first link, or of the loss of its train. It stands alone, so that the others take no room for
-    /// what it does.
-    #[inline(never)]
-    fn frequent_of_sink(&mut self, frequent: Frequent, text: &mut Octets) -> Result<(), Stop>
-        requires range { IsInRange (frequent_step frequent self.old.spare) }
-        requires line { IsSinkLine (frequent_step frequent self.old.spare) }
-        ensures { (starts accounts : List Account) (version : ℕ) (steps : List Said) → Stands steps self.old → stage_of steps ≡ running version
-            → Meets starts steps (frequent_step frequent self.old.spare) self.new text.old text.new accounts accounts result }
-    {
-        let (sink, call) = call_of(frequent);
-        self.sinks.call(sink, call, text)
     }
 
     /// Runs a line that is none of these, where the scenario began and didn't end.
@@ -158,10 +140,29 @@ impl Machine {
             → LinesStand starts lines self.old accounts
             → UnassignedSame (steps_of airs_of lines) outlets.old.items outlets.new.items }
     {
+        if let Some(said) = read_sink_line(line) {
+            return self.say_of_sink(said, text);
+        }
         match read_of_source(self.alloc, &mut self.operation, line) {
             Ok(Some(sink)) => self.operate(sink),
             Ok(None) => self.later_line(line, outlets, text),
             Err(Memory) => Err(Stop::Memory),
+        }
+    }
+
+    /// Makes the step of a line that names a sink alone.
+    #[inline(always)]
+    fn say_of_sink(&mut self, said: SinkLine, text: &mut Octets) -> Result<(), Stop>
+        requires { IsInRange (sink_line_step said) }
+        ensures { (starts accounts : List Account) (version : ℕ) (steps : List Said) → Stands steps self.old → stage_of steps ≡ running version
+            → Meets starts steps (sink_line_step said) self.new text.old text.new accounts accounts result }
+    {
+        match said {
+            SinkLine::Announce { sink } => self.announce(sink, text),
+            SinkLine::Serve { sink } => self.sinks.call(sink, SinkCall::Serve, text),
+            SinkLine::Tell { sink } => self.sinks.call(sink, SinkCall::Tell, text),
+            SinkLine::Drain { sink } => self.sinks.call(sink, SinkCall::Drain, text),
+            SinkLine::Lose { sink } => self.sinks.call(sink, SinkCall::Lose, text),
         }
     }
 
@@ -248,22 +249,5 @@ impl Machine {
         if !self.spare.as_slice().is_empty() {
             mem::swap(&mut self.spare, spare);
         }
-    }
-}
-
-/// A line of a sink's first link, or of the loss of its train: the sink that it names, and what it says.
-fn call_of(frequent: Frequent) -> (u8, SinkCall)
-    requires { IsSinkLine (frequent_step frequent []) }
-    ensures { (octets : List ℕ) → frequent_step frequent octets ≡ call_step result.1 result.0 }
-{
-    match frequent {
-        Frequent::Serve { sink } => (sink, SinkCall::Serve),
-        Frequent::Tell { sink } => (sink, SinkCall::Tell),
-        Frequent::Drain { sink } => (sink, SinkCall::Drain),
-        Frequent::Lose { sink } => (sink, SinkCall::Lose),
-        Frequent::Unit { .. }
-        | Frequent::Event
-        | Frequent::Air { .. }
-        | Frequent::Announce { .. } => unreachable!(),
     }
 }
