@@ -1,10 +1,13 @@
 -- A line of a first word, a space and the digit of a sink says its step in each version.
-use Rattle.recurring_lines.proofs.Prelude.{◌≡◌, ◌≤◌, ◌+◌, ◌-◌, ℕ, zero, suc, true, List, [], ◌∷◌, ◌++◌, length, get_or, drop, None, Some, Ok, refl, ap, sym, ◌∙◌, subst, codes, arith, Step, add-one, Option, bytes_eq, take, IfSome, take-append-drop, drop_all, bytes_eq-Decides, Announce, Serve, Tell, Drain, Lose, frequent_step, Frequent}
+use Rattle.recurring_lines.proofs.Prelude.{◌≡◌, ◌≤◌, ◌+◌, ◌-◌, ℕ, zero, suc, true, List, [], ◌∷◌, ◌++◌, length, get_or, drop, None, Some, Ok, refl, ap, sym, ◌∙◌, subst, codes, arith, Step, add-one, Option, bytes_eq, take, IfSome, take-append-drop, drop_all, bytes_eq-Decides, Announce, Serve, Tell, Drain, Lose, is_in_range}
 use Rattle.std.proofs.Math.Seq.{drop-cons}
 use Rattle.std.specs.Fmt.{digits as numerals}
 use Rattle.scenario_words.specs.Joined.{space}
 use Rattle.scenario_words.specs.Reading.{decimal_in}
+use Rattle.scenario_text.specs.Ranges.{IsInRange}
 use Rattle.scenario_text.specs.Steps.{read_of, step_of}
+use Rattle.recurring_lines.specs.SinkLines.{sink_line_step}
+use Rattle.recurring_lines.specs.declared.sink_lines.SinkLine.{SinkLine}
 use Rattle.scenario_text.specs.Table.{row_of, first_row_of, source_row_of, sink_row_of, link_row_of}
 
 -- what holds of each sink
@@ -60,9 +63,14 @@ whole line end digit count before is least =
     let both : drop end line ≡ space ∷ (48 + (digit - 48)) ∷ [] = cc in
     ap (λ rest. take end line ++ rest) (sym both) ∙ take-append-drop end line
 
-pub of_whole : (line : List ℕ) (end digit : ℕ) (octets : List ℕ) (found : Option Frequent) → length line ≡ end + 2 → get_or line end 0 ≡ space
+pub of_whole : (line : List ℕ) (end digit : ℕ) (found : Option SinkLine) → length line ≡ end + 2 → get_or line end 0 ≡ space
     → get_or line (end + 1) 0 ≡ digit → 48 ≤ digit
-    → IfSome found (λ frequent. (version : ℕ) → read_of version (take end line ++ space ∷ (48 + (digit - 48)) ∷ []) ≡ Ok (Some (frequent_step frequent octets)))
-    → IfSome found (λ frequent. (version : ℕ) → read_of version line ≡ Ok (Some (frequent_step frequent octets)))
-of_whole line end digit octets None count before is least h = tt
-of_whole line end digit octets (Some frequent) count before is least h = λ version. ap (read_of version) (sym (whole line end digit count before is least)) ∙ h version
+    → IfSome found (λ said. (version : ℕ) → read_of version (take end line ++ space ∷ (48 + (digit - 48)) ∷ []) ≡ Ok (Some (sink_line_step said)))
+    → IfSome found (λ said. (version : ℕ) → read_of version line ≡ Ok (Some (sink_line_step said)))
+of_whole line end digit None count before is least h = tt
+of_whole line end digit (Some said) count before is least h = λ version. ap (read_of version) (sym (whole line end digit count before is least)) ∙ h version
+
+pub in_range : (line : List ℕ) (found : Option SinkLine) → IfSome found (λ said. (version : ℕ) → read_of version line ≡ Ok (Some (sink_line_step said)))
+    → IfSome found (λ said. IsInRange (sink_line_step said))
+in_range line None h = tt
+in_range line (Some said) h = is_in_range 1 line (Ok (Some (sink_line_step said))) (h 1)

@@ -78,3 +78,4 @@ pub use Rattle.recurring_lines.specs.Operations.{operation_step}
 pub use Rattle.scenario_text.specs.Ranges.{IsInRange}
 pub use Rattle.scenario_sink.specs.SinkCalls.{call_step}
 pub use Rattle.recurring_lines.specs.Frequent.{frequent_step}
+pub use Rattle.recurring_lines.specs.SinkLines.{sink_line_step}

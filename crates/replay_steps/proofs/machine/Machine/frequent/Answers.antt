@@ -1,4 +1,4 @@
-use Rattle.replay_steps.proofs.Prelude.{refl, sym, ◌∙◌, ap, arith, length, common_steps, UnitLine, frequent_step}
+use Rattle.replay_steps.proofs.Prelude.{refl, sym, ◌∙◌, ap, arith, length, UnitLine, frequent_step}
 use Rattle.replay_steps.proofs.StepLaws.{quiet_as, meets_as}
 use Rattle.replay_steps.proofs.machine.Machine.frequent.Goals as goal
 
@@ -16,12 +16,3 @@ returns-in-Event-clause-meets g c starts version steps stands e boxes =
 pub returns-in-Air-clause-meets : goal.returns-in-Air-clause-meets
 returns-in-Air-clause-meets g c starts version steps stands e boxes =
     grind (arith, quiet_as, c.air.ensures (length starts) version steps stands e)
-
-pub returns-in-Announce-clause-meets : goal.returns-in-Announce-clause-meets
-returns-in-Announce-clause-meets g c starts version steps stands e boxes = grind (arith, c.announce.ensures starts version steps stands e)
-
-pub frequent_of_sink-requires-clause-line : goal.frequent_of_sink-requires-clause-line
-frequent_of_sink-requires-clause-line g c = grind (arith, common_steps)
-
-pub returns-in-Serve-clause-meets : goal.returns-in-Serve-clause-meets
-returns-in-Serve-clause-meets g c starts version steps stands e boxes = c.frequent_of_sink.ensures starts _ version steps stands e

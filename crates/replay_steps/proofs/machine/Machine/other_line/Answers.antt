@@ -1,7 +1,13 @@
-use Rattle.replay_steps.proofs.Prelude.{refl, steps_of, airs_of, operation_step}
+use Rattle.replay_steps.proofs.Prelude.{refl, steps_of, airs_of, operation_step, sink_line_step}
 use Rattle.replay_steps.proofs.LineLaws.{lines_beside, runs_line}
 use Rattle.replay_steps.proofs.StepLaws.{stands_beside}
 use Rattle.replay_steps.proofs.machine.Machine.other_line.Goals as goal
+
+pub returns-in-Some-clause-meets : goal.returns-in-Some-clause-meets
+returns-in-Some-clause-meets g c starts version lines stand e =
+    runs_line starts _ version lines c.args.line.now _ c.say_of_sink.new.self c.args.text.now c.say_of_sink.new.text (sink_line_step c.in-Some.said)
+    c.say_of_sink.result stand e c.in-Some.ensures.reads
+    (λ accounts. c.say_of_sink.ensures starts accounts version (steps_of airs_of lines) stand.stands e)
 
 pub returns-in-Ok-Some-clause-meets : goal.returns-in-Ok-Some-clause-meets
 returns-in-Ok-Some-clause-meets g c starts version lines stand e =
