@@ -9,3 +9,4 @@ mod Operations
 mod Rows
 mod Steps
 mod Within
+mod Whose

@@ -1,5 +1,6 @@
 //! The line of each step, as its first word and the values at its places.
 ghost use Rattle.scenario_text.specs.declared.step.Step.TheVariants.{Add, Modify};
+ghost use Rattle.scenario_text.specs.Whose.{IsOfClient, IsOfSink};
 ghost use Rattle.scenario_text.specs.Written.{placed_step};
 
 use crate::limits::{BEFORE_ADD, BEFORE_MODIFY, MOST_OF_OPERATION};
@@ -114,6 +115,75 @@ impl Step {
                 &[Exactly(giv, 8), Exactly(gskd, 16)],
             ),
             Step::Start { first } => taker.take(b"start", &[Number(*first, 0, 549_755_813_887)]),
+            Step::Unit { bis, time, octets } => taker.take(
+                b"unit",
+                &[Stream(*bis), Time(*time, 1 << 62), Octets(octets, 4_095)],
+            ),
+            Step::Event => taker.take(b"event", &[]),
+            Step::Sniff {
+                back,
+                bis,
+                subevent,
+            } => taker.take(
+                b"sniff",
+                &[
+                    Number(*back as u64, 0, 31),
+                    Stream(*bis),
+                    Number(*subevent as u64, 0, 30),
+                ],
+            ),
+            Step::Terminate { reason } => taker.take(
+                b"terminate",
+                &[Number(*reason as u64, 0, 255)],
+            ),
+            Step::Stop => taker.take(b"stop", &[]),
+            Step::End => taker.take(b"end", &[]),
+            Step::Source { source } => taker.take(b"source", &[Number(*source as u64, 0, 1)]),
+            Step::Relay { sink, bis, to } => taker.take(
+                b"relay",
+                &[Sink(*sink), Stream(*bis), Stream(*to)],
+            ),
+            Step::Sink { .. }
+            | Step::Pac { .. }
+            | Step::Locate { .. }
+            | Step::Context { .. }
+            | Step::Tuned { .. }
+            | Step::Hear { .. }
+            | Step::Air { .. }
+            | Step::Inject { .. }
+            | Step::Announce { .. }
+            | Step::Train { .. }
+            | Step::Show { .. }
+            | Step::Lose { .. }
+            | Step::Drop { .. }
+            | Step::Control { .. }
+            | Step::Forge { .. } => self.give_line_of_sink(taker),
+            Step::Write { .. }
+            | Step::Add { .. }
+            | Step::Modify { .. }
+            | Step::Remove { .. }
+            | Step::Code { .. }
+            | Step::Serve { .. }
+            | Step::Tell { .. }
+            | Step::Read { .. }
+            | Step::Drain { .. }
+            | Step::Assist { .. }
+            | Step::Apart { .. }
+            | Step::AWrite { .. }
+            | Step::AServe { .. }
+            | Step::ATell { .. }
+            | Step::ARead { .. }
+            | Step::ADrain { .. }
+            | Step::AShow { .. } => self.give_line_of_client(taker),
+        }
+    }
+
+    /// The same for a line of a sink, or of what it hears.
+    fn give_line_of_sink<T: LineTaker>(&self, taker: &T) -> T::Made
+        requires { IsOfSink self.now }
+        ensures { T.makes taker.now (placed_step self.now) result }
+    {
+        match self {
             Step::Sink {
                 sink,
                 streams,
@@ -152,11 +222,6 @@ impl Step {
                 &[Sink(*sink), TwoOctets(*sink_bits), TwoOctets(*source_bits)],
             ),
             Step::Tuned { sink, which } => taker.take(b"tuned", &[Sink(*sink), Streams(*which)]),
-            Step::Unit { bis, time, octets } => taker.take(
-                b"unit",
-                &[Stream(*bis), Time(*time, 1 << 62), Octets(octets, 4_095)],
-            ),
-            Step::Event => taker.take(b"event", &[]),
             Step::Hear {
                 sink,
                 back,
@@ -191,18 +256,6 @@ impl Step {
                     Octets(octets, 300),
                 ],
             ),
-            Step::Sniff {
-                back,
-                bis,
-                subevent,
-            } => taker.take(
-                b"sniff",
-                &[
-                    Number(*back as u64, 0, 31),
-                    Stream(*bis),
-                    Number(*subevent as u64, 0, 30),
-                ],
-            ),
             Step::Announce { sink } => taker.take(b"announce", &[Sink(*sink)]),
             Step::Train {
                 sink,
@@ -220,6 +273,31 @@ impl Step {
                     Octets(acad, 255),
                 ],
             ),
+            Step::Show { sink } => taker.take(b"show", &[Sink(*sink)]),
+            Step::Lose { sink } => taker.take(b"lose", &[Sink(*sink)]),
+            Step::Drop { sink } => taker.take(b"drop", &[Sink(*sink)]),
+            Step::Control { sink, octets } => taker.take(
+                b"control",
+                &[Sink(*sink), Octets(octets, 300)],
+            ),
+            Step::Forge { sink, slot, octets } => taker.take(
+                b"forge",
+                &[
+                    Sink(*sink),
+                    Number(*slot as u64, 0, 255),
+                    Octets(octets, 1_024),
+                ],
+            ),
+            _ => unreachable!(),
+        }
+    }
+
+    /// The same for a line of the clients of a sink.
+    fn give_line_of_client<T: LineTaker>(&self, taker: &T) -> T::Made
+        requires { IsOfClient self.now }
+        ensures { T.makes taker.now (placed_step self.now) result }
+    {
+        match self {
             Step::Write { sink, octets } => taker.take(
                 b"write",
                 &[Sink(*sink), Octets(octets, 512)],
@@ -246,27 +324,6 @@ impl Step {
             Step::Tell { sink } => taker.take(b"tell", &[Sink(*sink)]),
             Step::Read { sink } => taker.take(b"read", &[Sink(*sink)]),
             Step::Drain { sink } => taker.take(b"drain", &[Sink(*sink)]),
-            Step::Show { sink } => taker.take(b"show", &[Sink(*sink)]),
-            Step::Lose { sink } => taker.take(b"lose", &[Sink(*sink)]),
-            Step::Drop { sink } => taker.take(b"drop", &[Sink(*sink)]),
-            Step::Terminate { reason } => taker.take(
-                b"terminate",
-                &[Number(*reason as u64, 0, 255)],
-            ),
-            Step::Control { sink, octets } => taker.take(
-                b"control",
-                &[Sink(*sink), Octets(octets, 300)],
-            ),
-            Step::Forge { sink, slot, octets } => taker.take(
-                b"forge",
-                &[
-                    Sink(*sink),
-                    Number(*slot as u64, 0, 255),
-                    Octets(octets, 1_024),
-                ],
-            ),
-            Step::Stop => taker.take(b"stop", &[]),
-            Step::End => taker.take(b"end", &[]),
             Step::Assist { sink, link } => taker.take(b"assist", &[Sink(*sink), Link(*link)]),
             Step::Apart { sink, link } => taker.take(
                 b"apart",
@@ -281,11 +338,7 @@ impl Step {
             Step::ARead { sink, link } => taker.take(b"aread", &[Sink(*sink), Link(*link)]),
             Step::ADrain { sink, link } => taker.take(b"adrain", &[Sink(*sink), Link(*link)]),
             Step::AShow { sink, link } => taker.take(b"ashow", &[Sink(*sink), Link(*link)]),
-            Step::Source { source } => taker.take(b"source", &[Number(*source as u64, 0, 1)]),
-            Step::Relay { sink, bis, to } => taker.take(
-                b"relay",
-                &[Sink(*sink), Stream(*bis), Stream(*to)],
-            ),
+            _ => unreachable!(),
         }
     }
 }

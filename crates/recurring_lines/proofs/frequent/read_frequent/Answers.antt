@@ -8,5 +8,5 @@ returns-in-Some-clause-in_range c = all_in_range _ _ c.of_unit.result c.of_unit.
 pub returns-then-is_word-clause-reads : goal.returns-then-is_word-clause-reads
 returns-then-is_word-clause-reads c version = event_read version c.args.line.now (sym c.is_word.ensures ∙ c.if-is_word.true)
 
-pub returns-in-Some-2-clause-in_range : goal.returns-in-Some-2-clause-in_range
-returns-in-Some-2-clause-in_range c = some_in_range _ c.args.spare.now c.of_air.result (c.of_air.ensures c.args.spare.now)
+pub returns-in-Some-behind-clause-in_range : goal.returns-in-Some-behind-clause-in_range
+returns-in-Some-behind-clause-in_range c = some_in_range _ c.args.spare.now c.of_air.result (c.of_air.ensures c.args.spare.now)
