@@ -1,4 +1,7 @@
 //! The line of each step, as its first word and the values at its places.
+ghost use Rattle.std.specs.Prelude.{◌∷◌, []};
+ghost use Rattle.scenario_words.specs.Given.{placed};
+ghost use Rattle.scenario_words.specs.declared.value.Value.TheVariants.{Link as ALink, Number as ANumber, Sink as ASink};
 ghost use Rattle.scenario_text.specs.declared.step.Step.TheVariants.{Add, Modify};
 ghost use Rattle.scenario_text.specs.Whose.{IsOfClient, IsOfSink};
 ghost use Rattle.scenario_text.specs.Written.{placed_step};
@@ -47,13 +50,34 @@ fn give_modify<T: LineTaker>(taker: &T, sink: u8, op: &ModifySource) -> T::Made
     )
 }
 
+/// A line that has a sink alone.
+fn give_sink<T: LineTaker>(taker: &T, word: &[u8], sink: u8) -> T::Made
+    ensures { T.makes taker.now (placed word.now (ASink sink ∷ [])) result }
+{
+    taker.take(word, &[Sink(sink)])
+}
+
+/// A line that has a sink and a link of it.
+fn give_link<T: LineTaker>(taker: &T, word: &[u8], sink: u8, link: u8) -> T::Made
+    ensures { T.makes taker.now (placed word.now (ASink sink ∷ ALink link ∷ [])) result }
+{
+    taker.take(word, &[Sink(sink), Link(link)])
+}
+
+/// A line that has a number alone, which has these bounds.
+fn give_number<T: LineTaker>(taker: &T, word: &[u8], number: u64, least: u64, most: u64) -> T::Made
+    ensures { T.makes taker.now (placed word.now (ANumber number least most ∷ [])) result }
+{
+    taker.take(word, &[Number(number, least, most)])
+}
+
 impl Step {
     /// Hands on the first word of the line of the step, and the values at its places, whether they have words there or not.
     pub fn give_line<T: LineTaker>(&self, taker: &T) -> T::Made
         ensures { T.makes taker.now (placed_step self.now) result }
     {
         match self {
-            Step::Scenario { version } => taker.take(b"scenario", &[Number(*version as u64, 1, 2)]),
+            Step::Scenario { version } => give_number(taker, b"scenario", *version as u64, 1, 2),
             Step::Group {
                 framing,
                 origin,
@@ -114,7 +138,7 @@ impl Step {
                 b"cipher",
                 &[Exactly(giv, 8), Exactly(gskd, 16)],
             ),
-            Step::Start { first } => taker.take(b"start", &[Number(*first, 0, 549_755_813_887)]),
+            Step::Start { first } => give_number(taker, b"start", *first, 0, 549_755_813_887),
             Step::Unit { bis, time, octets } => taker.take(
                 b"unit",
                 &[Stream(*bis), Time(*time, 1 << 62), Octets(octets, 4_095)],
@@ -132,13 +156,10 @@ impl Step {
                     Number(*subevent as u64, 0, 30),
                 ],
             ),
-            Step::Terminate { reason } => taker.take(
-                b"terminate",
-                &[Number(*reason as u64, 0, 255)],
-            ),
+            Step::Terminate { reason } => give_number(taker, b"terminate", *reason as u64, 0, 255),
             Step::Stop => taker.take(b"stop", &[]),
             Step::End => taker.take(b"end", &[]),
-            Step::Source { source } => taker.take(b"source", &[Number(*source as u64, 0, 1)]),
+            Step::Source { source } => give_number(taker, b"source", *source as u64, 0, 1),
             Step::Relay { sink, bis, to } => taker.take(
                 b"relay",
                 &[Sink(*sink), Stream(*bis), Stream(*to)],
@@ -256,7 +277,7 @@ impl Step {
                     Octets(octets, 300),
                 ],
             ),
-            Step::Announce { sink } => taker.take(b"announce", &[Sink(*sink)]),
+            Step::Announce { sink } => give_sink(taker, b"announce", *sink),
             Step::Train {
                 sink,
                 time,
@@ -273,9 +294,9 @@ impl Step {
                     Octets(acad, 255),
                 ],
             ),
-            Step::Show { sink } => taker.take(b"show", &[Sink(*sink)]),
-            Step::Lose { sink } => taker.take(b"lose", &[Sink(*sink)]),
-            Step::Drop { sink } => taker.take(b"drop", &[Sink(*sink)]),
+            Step::Show { sink } => give_sink(taker, b"show", *sink),
+            Step::Lose { sink } => give_sink(taker, b"lose", *sink),
+            Step::Drop { sink } => give_sink(taker, b"drop", *sink),
             Step::Control { sink, octets } => taker.take(
                 b"control",
                 &[Sink(*sink), Octets(octets, 300)],
@@ -320,11 +341,11 @@ impl Step {
                     Exactly(code, 16),
                 ],
             ),
-            Step::Serve { sink } => taker.take(b"serve", &[Sink(*sink)]),
-            Step::Tell { sink } => taker.take(b"tell", &[Sink(*sink)]),
-            Step::Read { sink } => taker.take(b"read", &[Sink(*sink)]),
-            Step::Drain { sink } => taker.take(b"drain", &[Sink(*sink)]),
-            Step::Assist { sink, link } => taker.take(b"assist", &[Sink(*sink), Link(*link)]),
+            Step::Serve { sink } => give_sink(taker, b"serve", *sink),
+            Step::Tell { sink } => give_sink(taker, b"tell", *sink),
+            Step::Read { sink } => give_sink(taker, b"read", *sink),
+            Step::Drain { sink } => give_sink(taker, b"drain", *sink),
+            Step::Assist { sink, link } => give_link(taker, b"assist", *sink, *link),
             Step::Apart { sink, link } => taker.take(
                 b"apart",
                 &[Sink(*sink), Number(*link as u64, 1, 3)],
@@ -333,11 +354,11 @@ impl Step {
                 b"awrite",
                 &[Sink(*sink), Link(*link), Octets(octets, 512)],
             ),
-            Step::AServe { sink, link } => taker.take(b"aserve", &[Sink(*sink), Link(*link)]),
-            Step::ATell { sink, link } => taker.take(b"atell", &[Sink(*sink), Link(*link)]),
-            Step::ARead { sink, link } => taker.take(b"aread", &[Sink(*sink), Link(*link)]),
-            Step::ADrain { sink, link } => taker.take(b"adrain", &[Sink(*sink), Link(*link)]),
-            Step::AShow { sink, link } => taker.take(b"ashow", &[Sink(*sink), Link(*link)]),
+            Step::AServe { sink, link } => give_link(taker, b"aserve", *sink, *link),
+            Step::ATell { sink, link } => give_link(taker, b"atell", *sink, *link),
+            Step::ARead { sink, link } => give_link(taker, b"aread", *sink, *link),
+            Step::ADrain { sink, link } => give_link(taker, b"adrain", *sink, *link),
+            Step::AShow { sink, link } => give_link(taker, b"ashow", *sink, *link),
             _ => unreachable!(),
         }
     }
