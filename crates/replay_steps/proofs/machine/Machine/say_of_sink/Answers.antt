@@ -17,16 +17,16 @@ pub returns-in-Tell : goal.returns-in-Tell
 returns-in-Tell c starts accounts version steps stands e =
     meets_as starts steps _ _ _ _ _ _ _ _ (ap sink_line_step c.in-Tell.is)
     (call_meets starts accounts version c.in-Tell.sink steps Tell _ _ _ _ _ stands e refl refl refl
-    (c.call-2.ensures (histories_of steps) (source_at steps) stands.sinks))
+    (c.call-in-Tell.ensures (histories_of steps) (source_at steps) stands.sinks))
 
 pub returns-in-Drain : goal.returns-in-Drain
 returns-in-Drain c starts accounts version steps stands e =
     meets_as starts steps _ _ _ _ _ _ _ _ (ap sink_line_step c.in-Drain.is)
     (call_meets starts accounts version c.in-Drain.sink steps Drain _ _ _ _ _ stands e refl refl refl
-    (c.call-3.ensures (histories_of steps) (source_at steps) stands.sinks))
+    (c.call-in-Drain.ensures (histories_of steps) (source_at steps) stands.sinks))
 
 pub returns-in-Lose : goal.returns-in-Lose
 returns-in-Lose c starts accounts version steps stands e =
     meets_as starts steps _ _ _ _ _ _ _ _ (ap sink_line_step c.in-Lose.is)
     (call_meets starts accounts version c.in-Lose.sink steps Lose _ _ _ _ _ stands e refl refl refl
-    (c.call-4.ensures (histories_of steps) (source_at steps) stands.sinks))
+    (c.call-in-Lose.ensures (histories_of steps) (source_at steps) stands.sinks))
