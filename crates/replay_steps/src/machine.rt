@@ -11,8 +11,9 @@ use crate::operations::read_of_source;
 use crate::source_steps::give;
 use crate::version::Stage;
 use bcast_base::{Memory, Octets};
-use recurring_lines::{Frequent, OperationRoom, SinkLine, TrainRoom};
-use recurring_lines::{read_frequent, read_sink_line, read_train};
+use recurring_lines::{
+    Frequent, OperationRoom, SinkLine, TrainRoom, read_frequent, read_sink_line, read_train,
+};
 use scenario_lines::{LineFault, read_line_over};
 use scenario_sink::SinkCall;
 use scenario_sinks::{Relays, Sinks};
