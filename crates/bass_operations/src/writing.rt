@@ -1,6 +1,6 @@
 ghost use Rattle.std.specs.Prelude.{◌≡◌, ◌++◌, IfOk, OnOk};
 ghost use Rattle.bcast_base.specs.Layout.{laid};
-ghost use Rattle.bass_operations.specs.Layout.{AddFits, IsLaid, MetadataFits, ModifyFits, WishesFit, add_fields, modify_fields, wishes_fields, wishes_of};
+ghost use Rattle.bass_operations.specs.Layout.{AddFits, FitsWidths, IsLaid, MetadataFits, ModifyFits, WishesFit, add_fields, encoding, modify_fields, wishes_fields, wishes_of};
 
 use crate::operation::{AddSource, ModifySource, Operation};
 use crate::wishes::Wishes;
@@ -17,28 +17,34 @@ pub fn encode_operation(alloc: Global, op: &Operation) -> Result<Octets, Memory>
     ensures { IfOk result (λ octets. IsLaid op.now octets) }
 {
     let mut out = Octets::of(Vec::with_capacity(alloc, ROOM)?);
+    put_operation(&mut out, op)?;
+    Ok(out)
+}
+
+// Puts the octets of an operation at the end.
+#[inline(always)]
+fn put_operation(out: &mut Octets, op: &Operation) -> Result<(), Memory>
+    requires { MetadataFits (wishes_of op.now) }
+    ensures fields { OnOk result (out.new ≡ out.old ++ encoding op.now) }
+    ensures widths { OnOk result (FitsWidths op.now) }
+{
     match op {
-        Operation::ScanStopped => out.push(0)?,
-        Operation::ScanStarted => out.push(1)?,
+        Operation::ScanStopped => out.push(0),
+        Operation::ScanStarted => out.push(1),
         Operation::Add(add) => {
             out.push(2)?;
-            put_add(&mut out, add)?;
+            put_add(out, add)
         }
         Operation::Modify(modify) => {
             out.push(3)?;
-            put_modify(&mut out, modify)?;
+            put_modify(out, modify)
         }
         Operation::Code { source_id, code } => {
-            out.push(4)?;
-            out.push(*source_id)?;
-            out.append(code)?;
+            out.append(&[4, *source_id])?;
+            out.append(code)
         }
-        Operation::Remove { source_id } => {
-            out.push(5)?;
-            out.push(*source_id)?;
-        }
+        Operation::Remove { source_id } => out.append(&[5, *source_id]),
     }
-    Ok(out)
 }
 
 // Puts the fields of an Add Source at the end.

@@ -1,7 +1,7 @@
 ghost use Rattle.std.specs.Prelude.{◌≡◌, ◌<◌, ◌≤◌, [], length, is_some, true, Option, Some, IfOk, IfErr, OnErr, Ok, Err};
 ghost use Rattle.receive_state.specs.Faults.{IsFault};
 ghost use Rattle.receive_state.specs.Layout.{StateIs, code_width};
-ghost use Rattle.receive_state.specs.Reading.{told, state_of, judged_of, head_in, reserved_head, encryption_of, groups_of};
+ghost use Rattle.receive_state.specs.Reading.{told, state_of, judged_of, source_in, head_in, reserved_head, encryption_of, groups_of};
 ghost use Rattle.bcast_base.specs.Subgroups.{subgroups_in};
 ghost use Rattle.bcast_base.specs.Tries.{Answers, ReadsAs};
 ghost use Rattle.receive_state.specs.declared.fault.StateFault.TheVariants.{Memory as NoMemory};
@@ -25,14 +25,20 @@ const PA_SYNC_STATE_PLACE: usize = 12;
 
 const BIG_ENCRYPTION_PLACE: usize = 13;
 
-// A receive state whose subgroups are not read yet. The Bad_Code is empty where none is told.
+// What tells the source of a receive state.
 #[derive(Clone, Copy)]
-struct LentState<'a> {
-    source_id: u8,
+struct LentSource<'a> {
+    id: u8,
     address_type: u8,
     address: &'a [u8],
     sid: u8,
     broadcast_id: &'a [u8],
+}
+
+// A receive state whose subgroups are not read yet. The Bad_Code is empty where none is told.
+#[derive(Clone, Copy)]
+struct LentState<'a> {
+    source: LentSource<'a>,
     pa_sync_state: u8,
     encryption: u8,
     bad_code: &'a [u8],
@@ -113,16 +119,53 @@ fn read_state(
     Ok(state)
 }
 
+// What tells the source, and the octets behind it, or the place of the field that passes the end.
+#[inline(always)]
+#[tactic(auto, unfolding(crate::specs::Reading::source_in))]
+fn source_at(from: &[u8]) -> Result<(LentSource<'_>, &[u8]), ShortAt>
+    ensures source { ReadsAs (λ x. (
+      record {
+        source_id = x.0.id;
+        address_type = x.0.address_type;
+        address = x.0.address.now;
+        sid = x.0.sid;
+        broadcast_id = x.0.broadcast_id.now;
+        pa_sync_state = 0;
+        encryption = 0;
+        bad_code = [];
+        groups = [];
+      },
+      x.1.now,
+    )) (λ e. e.place) result (source_in from.now) }
+    ensures address { IfOk result (λ x. length x.0.address.now ≡ 6) }
+    ensures broadcast_id { IfOk result (λ x. length x.0.broadcast_id.now ≡ 3) }
+    ensures within { IfOk result (λ x. length x.1.now ≤ length from.now) }
+{
+    let (id, rest) = octet_of(from, from)?;
+    let (address_type, rest) = octet_of(from, rest)?;
+    let (address, rest) = octets_of(from, rest, 6)?;
+    let (sid, rest) = octet_of(from, rest)?;
+    let (broadcast_id, rest) = octets_of(from, rest, 3)?;
+    let source = LentSource {
+        id,
+        address_type,
+        address,
+        sid,
+        broadcast_id,
+    };
+    Ok((source, rest))
+}
+
 // The fields before the subgroups, or the place of the one that passes the end.
-#[tactic(auto, unfolding(crate::specs::Reading::source_in, crate::specs::Reading::head_in))]
+#[tactic(auto, unfolding(crate::specs::Reading::head_in))]
 fn head_at(from: &[u8]) -> Result<LentState<'_>, ShortAt>
     ensures head { ReadsAs (λ l. (
       record {
-        source_id = l.source_id;
-        address_type = l.address_type;
-        address = l.address.now;
-        sid = l.sid;
-        broadcast_id = l.broadcast_id.now;
+        source_id = l.source.id;
+        address_type = l.source.address_type;
+        address = l.source.address.now;
+        sid = l.source.sid;
+        broadcast_id = l.source.broadcast_id.now;
         pa_sync_state = l.pa_sync_state;
         encryption = l.encryption;
         bad_code = l.bad_code.now;
@@ -131,26 +174,18 @@ fn head_at(from: &[u8]) -> Result<LentState<'_>, ShortAt>
       l.count,
       l.groups.now,
     )) (λ e. e.place) result (head_in from.now) }
-    ensures address { IfOk result (λ l. length l.address.now ≡ 6) }
-    ensures broadcast_id { IfOk result (λ l. length l.broadcast_id.now ≡ 3) }
+    ensures address { IfOk result (λ l. length l.source.address.now ≡ 6) }
+    ensures broadcast_id { IfOk result (λ l. length l.source.broadcast_id.now ≡ 3) }
     ensures bad_code { IfOk result (λ l. length l.bad_code.now ≡ code_width l.encryption) }
     ensures within { IfOk result (λ l. length l.groups.now ≤ length from.now) }
 {
-    let (source_id, rest) = octet_of(from, from)?;
-    let (address_type, rest) = octet_of(from, rest)?;
-    let (address, rest) = octets_of(from, rest, 6)?;
-    let (sid, rest) = octet_of(from, rest)?;
-    let (broadcast_id, rest) = octets_of(from, rest, 3)?;
+    let (source, rest) = source_at(from)?;
     let (pa_sync_state, rest) = octet_of(from, rest)?;
     let (encryption, rest) = octet_of(from, rest)?;
     let (bad_code, rest) = octets_of(from, rest, bad_code_width(encryption))?;
     let (count, groups) = octet_of(from, rest)?;
     Ok(LentState {
-        source_id,
-        address_type,
-        address,
-        sid,
-        broadcast_id,
+        source,
         pa_sync_state,
         encryption,
         bad_code,
@@ -168,11 +203,11 @@ fn bad_code_width(encryption: u8) -> usize
 
 // The place of the first field before the subgroups that has a reserved value.
 fn reserved_in_head(lent: &LentState<'_>) -> Option<usize>
-    ensures { result ≡ reserved_head lent.now.address_type lent.now.sid lent.now.pa_sync_state lent.now.encryption }
+    ensures { result ≡ reserved_head lent.now.source.address_type lent.now.source.sid lent.now.pa_sync_state lent.now.encryption }
 {
-    if lent.address_type > 1 {
+    if lent.source.address_type > 1 {
         Some(ADDRESS_TYPE_PLACE)
-    } else if lent.sid > 15 {
+    } else if lent.source.sid > 15 {
         Some(SID_PLACE)
     } else if lent.pa_sync_state > 4 {
         Some(PA_SYNC_STATE_PLACE)
@@ -190,19 +225,19 @@ fn own_state(
     spare: &mut GroupStates,
     lent: &LentState<'_>,
 ) -> Result<ReceiveState, Memory>
-    requires address { length lent.now.address.now ≡ 6 }
-    requires broadcast_id { length lent.now.broadcast_id.now ≡ 3 }
+    requires address { length lent.now.source.address.now ≡ 6 }
+    requires broadcast_id { length lent.now.source.broadcast_id.now ≡ 3 }
     requires bad_code { length lent.now.bad_code.now ≡ code_width lent.now.encryption }
     requires encryption { lent.now.encryption ≤ 3 }
     requires groups { is_some (subgroups_in lent.now.count lent.now.groups.now) ≡ true }
     ensures err { OnErr result (0 < lent.now.count) }
     ensures groups { IfOk result (λ state. groups_of lent.now.count lent.now.groups.now ≡ Some state.groups) }
     ensures head { IfOk result (λ state. state ≡ record {
-      source_id = lent.now.source_id;
-      address_type = lent.now.address_type;
-      address = lent.now.address.now;
-      sid = lent.now.sid;
-      broadcast_id = lent.now.broadcast_id.now;
+      source_id = lent.now.source.id;
+      address_type = lent.now.source.address_type;
+      address = lent.now.source.address.now;
+      sid = lent.now.source.sid;
+      broadcast_id = lent.now.source.broadcast_id.now;
       pa_sync_state = lent.now.pa_sync_state;
       encryption = encryption_of lent.now.encryption lent.now.bad_code.now;
       groups = state.groups;
@@ -215,27 +250,27 @@ fn own_state(
 // The state of these fields and subgroups.
 #[inline(always)]
 fn with_groups(lent: &LentState<'_>, groups: GroupStates) -> ReceiveState
-    requires address { length lent.now.address.now ≡ 6 }
-    requires broadcast_id { length lent.now.broadcast_id.now ≡ 3 }
+    requires address { length lent.now.source.address.now ≡ 6 }
+    requires broadcast_id { length lent.now.source.broadcast_id.now ≡ 3 }
     requires bad_code { length lent.now.bad_code.now ≡ code_width lent.now.encryption }
     requires encryption { lent.now.encryption ≤ 3 }
     ensures { result ≡ record {
-      source_id = lent.now.source_id;
-      address_type = lent.now.address_type;
-      address = lent.now.address.now;
-      sid = lent.now.sid;
-      broadcast_id = lent.now.broadcast_id.now;
+      source_id = lent.now.source.id;
+      address_type = lent.now.source.address_type;
+      address = lent.now.source.address.now;
+      sid = lent.now.source.sid;
+      broadcast_id = lent.now.source.broadcast_id.now;
       pa_sync_state = lent.now.pa_sync_state;
       encryption = encryption_of lent.now.encryption lent.now.bad_code.now;
       groups = groups;
     } }
 {
     ReceiveState {
-        source_id: lent.source_id,
-        address_type: lent.address_type,
-        address: array_of(lent.address),
-        sid: lent.sid,
-        broadcast_id: array_of(lent.broadcast_id),
+        source_id: lent.source.id,
+        address_type: lent.source.address_type,
+        address: array_of(lent.source.address),
+        sid: lent.source.sid,
+        broadcast_id: array_of(lent.source.broadcast_id),
         pa_sync_state: lent.pa_sync_state,
         encryption: own_encryption(lent.encryption, lent.bad_code),
         groups,

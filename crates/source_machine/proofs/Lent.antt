@@ -1,5 +1,5 @@
 -- The PDUs of an event of a stream as they are lent.
-use Rattle.source_machine.proofs.Prelude.{ℕ, zero, suc, ◌≡◌, ◌<◌, ◌≤◌, ◌+◌, ◌-◌, ◌*◌, ◌/◌, ◌%◌, ◌^◌, Option, Some, None, List, [], length, get_or, map, refl, ap, sym, ◌∙◌, arith, get_or-map-range_with_len, length-map-range_with_len, mod_below, slice_get-get_or, slice_get_past, unwrap_or, All, range_with_len, slice_get, option_and_then, map_same, BigInfo, group_count, horizon_of, ahead_of, AreAirs, Air, pdu_of, Call, next_of, air_fault, IsChecked, Source, StandsFor, Stream, IsSource, IsLaid, sent_of}
+use Rattle.source_machine.proofs.Prelude.{ℕ, zero, suc, ◌≡◌, ◌<◌, ◌≤◌, ◌+◌, ◌-◌, ◌*◌, ◌/◌, ◌%◌, ◌^◌, Option, Some, None, List, [], length, get_or, set, get_or-set_other, get_or-set_same, cases_lt, map, refl, ap, sym, ◌∙◌, arith, get_or-map-range_with_len, length-map-range_with_len, mod_below, slice_get-get_or, slice_get_past, unwrap_or, All, range_with_len, slice_get, option_and_then, map_same, BigInfo, group_count, horizon_of, ahead_of, AreAirs, Air, pdu_of, Call, next_of, air_fault, IsChecked, Source, StandsFor, Stream, IsSource, IsLaid, sent_of}
 use Rattle.std.specs.List.{slice_index}
 use Rattle.std.specs.Prelude.{IsSome}
 use Rattle.source_machine.specs.State.Lent.{AheadsAre, AllLent, PlacesAre, lent_at, lent_pdus}
@@ -7,6 +7,11 @@ use Rattle.source_machine.specs.State.Streams.{Keeps}
 use Rattle.source_machine.proofs.HeardEvents.{heard}
 use Rattle.source_machine.proofs.Payloads.{ahead_within, sent_kept}
 use Rattle.source_machine.proofs.Sending.{gathered_at, gathered_count}
+
+-- the next entry of a table of the values of a function
+pub entry_set : (f : ℕ → ℕ) (xs : List ℕ) (n at value : ℕ) → n < length xs → at ≡ n → value ≡ f n
+    → ((s : ℕ) → s < n → get_or xs s 0 ≡ f s) → (s : ℕ) → s < n + 1 → get_or (set xs at value) s 0 ≡ f s
+entry_set f xs n at value long is_at is_value done s below = grind (arith, cases_lt, get_or-set_other, get_or-set_same)
 
 -- ---- what is lent is read
 

@@ -1,5 +1,6 @@
 -- Why a source refuses a unit, by what its stream's sender says.
-use Rattle.source_machine.proofs.Prelude.{ℕ, ◌≡◌, ◌<◌, ◌≤◌, ◌-◌, Bool, true, false, not, Option, Some, None, List, length, get_or, arith, refl, cases_lt, eq-eqb, ne_eqb, le-leb, lt-leb, le-ltb, lt-ltb, and_from, ◌&&◌, ◌||◌, nat_le, if◌then◌else◌, iso_us_of, Air, AreAirs, waiting_of, Setup, Call, framed_calls, last_time_of, next_anchor_of, stream_calls, give_fault, has_its_time, is_above, misfit_of, of_sender, refused_unit, IsChecked, HasTime, PutStops, SenderStands, info_of, waiting_in, Source, StandsFor, Stream, StreamIs, IsFit, IsSource, limit_of, Sender}
+use Rattle.source_machine.specs.Faults.{announce_fault}
+use Rattle.source_machine.proofs.Prelude.{ℕ, ◌*◌, ◌^◌, ◌≡◌, ◌<◌, ◌≤◌, ◌-◌, Bool, true, false, not, Option, Some, None, List, length, get_or, arith, refl, cases_lt, eq-eqb, ne_eqb, le-leb, lt-leb, le-ltb, lt-ltb, and_from, ◌&&◌, ◌||◌, nat_le, if◌then◌else◌, iso_us_of, Air, AreAirs, waiting_of, Setup, Call, framed_calls, last_time_of, next_anchor_of, stream_calls, give_fault, has_its_time, is_above, misfit_of, of_sender, refused_unit, IsChecked, HasTime, PutStops, SenderStands, info_of, waiting_in, Source, StandsFor, Stream, StreamIs, IsFit, IsSource, limit_of, Sender}
 use Rattle.isoal_base.specs.declared.laid.PutFault.{PutFault}
 use Rattle.isoal_framed.specs.State.Senders.{Above, NotPast}
 use Rattle.source_machine.specs.UnitFaults as unit_faults
@@ -96,3 +97,8 @@ pub late_then : (source : Source) (calls : List Call) (bis : ℕ) (time : Option
     → (¬ HasTime stream.sender time (limit_of source)) → misfit_of source.setup calls bis time octets ≡ Some unit_faults.TimeOrder
 late_then source calls bis time octets stream stands source_is fit least is lacks =
     grind (arith, own_stream, fit_misfit, time_refused, limit_same)
+
+-- an event whose number the payload counter has is announced
+pub announced : (source : Source) (calls : List Call) (bn : ℕ) → bn ≡ source.setup.info.bn → source.next * bn < 2 ^ 39 → StandsFor calls source
+    → announce_fault source.setup calls ≡ None
+announced source calls bn same below stands = grind (arith, lt-leb)

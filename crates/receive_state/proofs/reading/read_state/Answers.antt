@@ -19,7 +19,8 @@ pub returns-in_err-state-clause-exact : goal.returns-in_err-state-clause-exact
 returns-in_err-state-clause-exact c =
     let r = is_read c.args.from.now _ _ _ _ (λ i. omega (arith, c.type_inv.from i)) c.in_ok-lent.ensures.head c.in_ok-rest.ensures.field in
     let p = err_from_is_err_and c.from_residual-in_err-state.result c.from_residual-in_err-state.ensures.1 in
-    rw (p.1, p.2) (grind (arith, is_value))
+    rw (p.1, p.2)
+    (is_value c.args.from.now _ _ _ _ r c.in_default.ensures c.in_default-reserved_subgroup.ensures (sym c.is_empty.ensures ∙ c.if-not-is_empty.false))
 
 pub returns-in_err-state-clause-memory : goal.returns-in_err-state-clause-memory
 returns-in_err-state-clause-memory c wants =

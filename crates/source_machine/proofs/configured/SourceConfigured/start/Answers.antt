@@ -11,3 +11,6 @@ returns-in-Ok-clause-ok c =
       stands_new (record { info = plan.group.info; origin = plan.origin; delay = plan.base.delay; first = c.args.first_event; ahead = plan.ahead })
           c.in-Ok.streams.items c.in-Ok.ensures.new plan.identity plan.base plan.cipher,
     )
+
+pub returns-in-Ok-clause-announced : goal.returns-in-Ok-clause-announced
+returns-in-Ok-clause-announced c = rw (← c.self.view_is) (refl, refl)
