@@ -1,10 +1,8 @@
 -- One source after a step that means it.
 use Rattle.scenario_sources.proofs.Prelude.{◌≡◌, ◌≢◌, ◌<◌, ◌-◌, ℕ, Air, airs_exist, Bool, true, false, List, [], ◌∷◌, refl, sym, subst, option_or, ◌∙◌, ap, is_some, unwrap_or, option_map, if◌then◌else◌, arith, Option, None, Some, Result, Ok, Err, endpoint, BigInfo, Cipher, subgroups_in, with_cipher, without_cipher, airs_of, pdu_of, stale_of, waiting_of, Call, Setup, next_of, Source, StandsFor, Refusal, Order, Stop, Refused, Step, Ident, subgroups_of, GroupLine, cipher_of, event_back, pdu_in, absent, described, sending, phase_of, ident_of, is_ciphered, open_event, performed, setup_of, source_calls, stale_in, takes_units, is_over, Identity, Described, IsPlain, group_step, fault_in, misfit_refusal_of, AbsentIs, Becomes, DescribedIs, StartedIs}
 use Rattle.std.specs.List.{range_with_len}
-use Rattle.std.specs.Prelude.{◌%◌, ◌^◌, map, IfNone, IfSome, OnSome}
-use Rattle.iso_pdu.specs.Control.{terminate}
+use Rattle.std.specs.Prelude.{map, IfNone, IfSome, OnSome}
 use Rattle.iso_pdu.specs.Encoding.{pdu}
-use Rattle.iso_pdu.specs.Layout.{control}
 use Rattle.radio_schedule.specs.declared.air.AirFault.{AirFault}
 use Rattle.source_machine.specs.Airs.{AreAirs}
 use Rattle.source_machine.specs.Calls.{event as perform, last_of}
@@ -13,12 +11,10 @@ use Rattle.source_machine.specs.declared.sent.Stale.{Stale}
 use Rattle.source_machine.specs.declared.fault.GiveFault.{GiveFault}
 use Rattle.source_machine.specs.UnitFaults as faults
 use Rattle.source_machine.specs.Faults.{air_fault, answer_of, give_fault, misfit_of, refused_unit}
-use Rattle.scenario_text.specs.declared.step.Step.TheVariants.{Cipher as CipherLine, Stop as StopLine, Unit as UnitStep}
+use Rattle.scenario_text.specs.declared.step.Step.TheVariants.{Cipher as CipherLine, Unit as UnitStep}
 use Rattle.scenario_history.specs.Refusals.{air_refusal, give_refusal, no_place, relayed_or}
 use Rattle.scenario_sources.specs.declared.phase.Phase.TheVariants as phases
 use Rattle.scenario_sources.specs.Answers.{SentIs}
-use Rattle.scenario_sources.specs.State.Phases.{Closes, PhaseIs, Terminates}
-use Rattle.scenario_sources.specs.declared.phase.Phase.{Phase}
 use Rattle.scenario_sources.specs.State.Stops.{GivesTo, GiveStops}
 
 same_line : (i j : BigInfo) (o p d e : ℕ) → i ≡ j → o ≡ p → d ≡ e
@@ -152,33 +148,3 @@ left_out own setup stale same is = is ∙ ap (λ s. stale_of s (source_calls own
 pub closed_is : (own : List Step) (setup : Setup) (closed : Option ℕ) → setup ≡ setup_of own → phase_of own ≡ sending → is_over own ≡ false
     → closed ≡ last_of setup (source_calls own) → closed ≡ open_event own
 closed_is own setup closed same sends runs is = grind (arith, next_of, setup_of, source_calls, event_back, performed)
-
--- ---- stop, terminate
-
-pub stops : (version : ℕ) (own : List Step) (old : Phase) (started : Source) (closed : Option ℕ) → old ≡ phases.Sending started → PhaseIs own old
-    → ((calls : List Call) → StandsFor calls started → closed ≡ last_of started.setup calls) → Closes version own StopLine (phases.Stopped started) (Ok closed)
-stops version own old started closed so is last =
-    let here = rw so at is in let s = here.1 in (
-      rw here.0 refl,
-      (refl, record { identity = s.identity; setup = s.setup; under_way = s.under_way; base = s.base; cipher = s.cipher; calls = s.calls }),
-      λ running. closed_is own started.setup closed s.setup here.0 running (last (source_calls own) s.calls),
-    )
-
-pub ends : (version : ℕ) (own : List Step) (reason : ℕ) (old : Phase) (started : Source) (closed : Option ℕ) (octets : List ℕ) → old ≡ phases.Sending started → PhaseIs own old
-    → ((calls : List Call) → StandsFor calls started → closed ≡ last_of started.setup calls) → octets ≡ pdu (control (terminate reason (started.next % 2 ^ 16)))
-    → Terminates version own reason (phases.Stopped started) (Ok (record { closed = closed; pdu = octets }))
-ends version own reason old started closed octets so is last told =
-    let stop = stops version own old started closed so is last in let s = (rw so at is).1 in (
-      stop.0,
-      (refl, record { identity = s.identity; setup = s.setup; under_way = s.under_way; base = s.base; cipher = s.cipher; calls = s.calls }),
-      stop.2,
-      told ∙ ap (λ n. pdu (control (terminate reason (n % 2 ^ 16)))) (s.calls.next ∙ ap (λ p. next_of p (source_calls own)) s.setup),
-    )
-
--- so it is with `terminate`
-pub stops_not : (version : ℕ) (own : List Step) (phase : Phase) → PhaseIs own phase → ((started : Source) → phase ≢ phases.Sending started)
-    → Closes version own StopLine phase (Err (Refused Order))
-stops_not version own (phases.Sending started) is other = absurd (other started refl)
-stops_not version own phases.Absent is other = (rw is.0 refl, is)
-stops_not version own (phases.Described said) is other = (rw is.0 refl, is)
-stops_not version own (phases.Stopped started) is other = (rw is.0 refl, is)
