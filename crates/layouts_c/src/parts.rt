@@ -41,7 +41,10 @@ pub struct AirBaseStream {
 fn is_within(octets: &[u8], place: usize, count: usize) -> bool
     ensures { result ≡ is_within (length octets.now) place count }
 {
-    place <= octets.len() && count <= octets.len() - place
+    if octets.len() < place {
+        return false;
+    }
+    count <= octets.len() - place
 }
 
 /// Whether the runs of a subgroup stand among the octets.
@@ -95,7 +98,7 @@ fn run_of(alloc: Global, octets: &[u8], place: usize, count: usize) -> Result<Oc
     requires { IsTrue (is_within (length octets.now) place count) }
     ensures { IfOk result (λ run. run ≡ run_in octets.now place count) }
 {
-    Octets::copy(alloc, &octets[place..place + count])
+    Octets::copy(alloc, &octets[place..][..count])
 }
 
 /// The entry of a stream.

@@ -1,8 +1,9 @@
 -- The assistant that is lent is the one on the link.
-use Rattle.scenario_sink.proofs.Prelude.{ℕ, ◌≡◌, List, [], ◌∷◌, ◌++◌, drop, Option, Some, None, refl, sym, ap, ◌∙◌, subst, IfSome, OnSome, option_map, option_to_list, Assistant, IsLowest, with_assistant_on, Links, Takes}
+use Rattle.scenario_sink.proofs.Prelude.{ℕ, ◌≡◌, List, [], ◌∷◌, ◌++◌, drop, Option, Some, None, refl, sym, ap, ◌∙◌, subst, IfSome, OnSome, option_map, option_to_list, Assistant, IsLowest, link_at, mtu_of, slots_of, with_assistant_on, Linked, assistant_in, Links, Takes}
 use denote.Ref.{MutBor}
 use Rattle.assistant_machine.specs.Calls.{Call, asked, sent}
 use Rattle.assistant_machine.specs.State.Assistants.{StandsFor}
+use Rattle.scenario_sink.proofs.Places.{lent_same, lent_terms}
 
 pub its_own : (lent : Option (MutBor Assistant)) (it : MutBor Assistant) (before : Assistant) → lent ≡ Some it → option_map (λ (r : MutBor Assistant). r.now) lent ≡ Some before → it.now ≡ before
 its_own lent it before is holds = let same : Some it.now ≡ Some before = sym (ap (option_map (λ (r : MutBor Assistant). r.now)) is) ∙ holds in cc
@@ -37,3 +38,15 @@ asked_so (Some slot) lent before now link links same lowest stands = (
     stands = λ slots taken stood. stands slots taken (subst (StandsFor slots taken) (sym same) stood);
   },
 )
+
+-- an assistant is given back as it was
+pub given_back : (links : Links) (link : ℕ) (a : Assistant) → assistant_in (link_at links link) ≡ Some a → let after : Links = with_assistant_on links link a in
+    ((other : ℕ) → link_at after other ≡ link_at links other) × (slots_of after ≡ slots_of links) × (mtu_of after ≡ mtu_of links)
+given_back links link a is = by (link_at links link) refl
+  where
+    by : (on : Option Linked) → link_at links link ≡ on → let after : Links = with_assistant_on links link a in
+        ((other : ℕ) → link_at after other ≡ link_at links other) × (slots_of after ≡ slots_of links) × (mtu_of after ≡ mtu_of links)
+    by None e = absurd (let no : None ≡ Some a = ap assistant_in (sym e) ∙ is in cc)
+    by (Some on) e =
+        let so : Some on.assistant ≡ Some a = ap assistant_in (sym e) ∙ is in let same : on.assistant ≡ a = cc in let terms = lent_terms links link on a e in
+        (λ other. subst (λ (x : Assistant). link_at (with_assistant_on links link x) other ≡ link_at links other) same (lent_same links link other on e), terms.0, terms.1)

@@ -8,7 +8,7 @@ ghost use Rattle.iso_pdu.specs.Layout.{control};
 ghost use Rattle.iso_pdu.specs.Encoding.{pdu};
 ghost use Rattle.source_machine.specs.Airs.{AreAirs, pdu_of, stale_of};
 ghost use Rattle.source_machine.specs.Calls.{Call, event as performed, give, next_anchor_of, next_of};
-ghost use Rattle.source_machine.specs.Faults.{air_fault, event_fault, give_fault};
+ghost use Rattle.source_machine.specs.Faults.{air_fault, event_fault, give_fault, refused_unit};
 ghost use Rattle.source_c.specs.Sources.{Source, Stands, ended_c, heard_c, refused_c, stale_in, time_c};
 
 use crate::handle::VmSource;
@@ -55,11 +55,21 @@ pub extern "C" fn vm_source_give(
     let time = if has_time { Some(time) } else { None };
     match machine.source.give(bis, time, octets) {
         Ok(()) => OK,
-        Err(GiveFault::NoSuchBis) => NO_BIS,
-        Err(GiveFault::UnitTooLong) => TOO_LONG,
-        Err(GiveFault::TimeOrder) => TIME_ORDER,
-        Err(GiveFault::Backlog) => BACKLOG,
-        Err(GiveFault::Memory) => MEMORY,
+        Err(fault) => refusal_for_c(fault),
+    }
+}
+
+/// Why a unit is refused, for C.
+fn refusal_for_c(fault: GiveFault) -> u32
+    ensures named { result ≢ memory → result ≡ refused_c (refused_unit fault) }
+    ensures refused { (result ≢ ok) × (result ≢ range) × (result ≢ encrypted) }
+{
+    match fault {
+        GiveFault::NoSuchBis => NO_BIS,
+        GiveFault::UnitTooLong => TOO_LONG,
+        GiveFault::TimeOrder => TIME_ORDER,
+        GiveFault::Backlog => BACKLOG,
+        GiveFault::Memory => MEMORY,
     }
 }
 
@@ -191,9 +201,19 @@ pub extern "C" fn vm_source_pdu(
                 ROOM
             }
         }
-        Err(AirFault::NoSuchBis) => NO_BIS,
-        Err(AirFault::NoSuchSubevent) => NO_SUBEVENT,
-        Err(AirFault::NotOnAir) => NOT_ON_AIR,
+        Err(fault) => place_for_c(fault),
+    }
+}
+
+/// Why there is no PDU at a place, for C.
+fn place_for_c(fault: AirFault) -> u32
+    ensures named { result ≡ heard_c (Some fault) }
+    ensures refused { (result ≢ ok) × (result ≢ range) × (result ≢ no_room) }
+{
+    match fault {
+        AirFault::NoSuchBis => NO_BIS,
+        AirFault::NoSuchSubevent => NO_SUBEVENT,
+        AirFault::NotOnAir => NOT_ON_AIR,
     }
 }
 

@@ -1,4 +1,4 @@
-use Rattle.scenario_sink.proofs.Prelude.{◌∷◌, ◌++◌, [], length, refl, sym, subst, IsOctets, record_added, Halves, record_of, snapshot_in, Stands, arith}
+use Rattle.scenario_sink.proofs.Prelude.{◌<◌, ◌≤◌, ◌∷◌, ◌++◌, [], length, refl, sym, subst, IsOctets, record_added, Halves, Snapshot, record_of, snapshot_in, Stands, greatest_value}
 use Rattle.ltv_codec.proofs.Citable.{are_read}
 use Rattle.pacs_records.specs.Layout.{value}
 use Rattle.scenario_sink.proofs.Recorded.{has_room, no_room}
@@ -17,7 +17,8 @@ returns-in-Ok c source sink history lives =
     let took = lives.stands.took in
     let entry = record_of c.args.codec c.args.caps c.args.metadata in (
       has_room (length (value ((snapshot_in history.made history.calls_made).capability.entries ++ entry ∷ [])))
-          (grind (arith, its_snapshot history _ _ took, c.in-Ok.ensures.fits history.made.setup took.taken took.stands)),
+          (subst (λ (s : Snapshot). length (value (s.capability.entries ++ entry ∷ [])) ≤ greatest_value) (its_snapshot history _ _ took)
+          (c.in-Ok.ensures.fits history.made.setup took.taken took.stands)),
       record {
         stands = sets c.a_step_notifies_each_link.ensures (record_added entry) history c.args.self.now.delegator _ _ refl tt (λ snapshot i. refl) lives.stands
             (c.in-Ok.ensures.stands history.made.setup took.taken took.stands) c.add_pac.ensures.settings;
@@ -30,7 +31,8 @@ returns-in-Err-TooLong c source sink history lives =
     let took = lives.stands.took in
     let entry = record_of c.args.codec c.args.caps c.args.metadata in (
       no_room (length (value ((snapshot_in history.made history.calls_made).capability.entries ++ entry ∷ [])))
-          (grind (arith, its_snapshot history _ _ took, c.in-Err-TooLong.field-0-is, c.in-Err-TooLong.ensures.refused history.made.setup took.taken took.stands)),
+          (subst (λ (s : Snapshot). greatest_value < length (value (s.capability.entries ++ entry ∷ []))) (its_snapshot history _ _ took)
+          (rw c.in-Err-TooLong.field-0-is at (c.in-Err-TooLong.ensures.refused history.made.setup took.taken took.stands))),
       record { stands = subst (λ (d : Halves). Stands history d c.args.self.now.links) (sym c.in-Err-TooLong.ensures.err) lives.stands; source_is = lives.source_is },
     )
 
@@ -39,6 +41,7 @@ returns-in-Err-Memory c source sink history lives =
     let took = lives.stands.took in
     let entry = record_of c.args.codec c.args.caps c.args.metadata in (
       has_room (length (value ((snapshot_in history.made history.calls_made).capability.entries ++ entry ∷ [])))
-          (grind (arith, its_snapshot history _ _ took, c.in-Err-Memory.field-0-is, c.in-Err-Memory.ensures.refused history.made.setup took.taken took.stands)),
+          (subst (λ (s : Snapshot). length (value (s.capability.entries ++ entry ∷ [])) ≤ greatest_value) (its_snapshot history _ _ took)
+          (rw c.in-Err-Memory.field-0-is at (c.in-Err-Memory.ensures.refused history.made.setup took.taken took.stands))),
       tt,
     )

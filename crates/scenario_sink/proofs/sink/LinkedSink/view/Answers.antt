@@ -16,4 +16,5 @@ returns-clause-answer c history lives on =
     (λ state is. views_fit c.read_is_state.ensures c.args.slot h.holds.taken state h.holds.heard (sym same ∙ is)))
 
 pub returns-clause-lives : goal.returns-clause-lives
-returns-clause-lives c history lives = search unchanged
+returns-clause-lives c history lives =
+    record { stands = unchanged history _ _ _ lives.stands c.view_on.ensures.terms c.view_on.ensures.same; source_is = lives.source_is }
