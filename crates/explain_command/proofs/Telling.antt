@@ -2,6 +2,7 @@
 use Rattle.explain_command.proofs.Prelude.{ℕ, suc, zero, ◌≡◌, ◌≢◌, ◌+◌, ◌<◌, ◌≤◌, ◌==◌, Bool, true, false, List, [], ◌∷◌, ◌++◌, Option, None, Some, Result, Ok, Err, MatchResult, length, get_or, take, drop, min, refl, sym, ap, subst, ◌∙◌, append-nil, arith, take-append-drop, if◌then◌else◌, eq-eqb, drop-drop, get_or-take, length-drop, length-take, take-append-le, Appends, Keeps, AppendsPrefix, AppendsShort, Start, Blank, Blanks, Mark, Within, Beside, Line, lines_at, lines_told, next, next_in_row, number_of, picked, picked_at, place_after, takes, tells_line, told, told_at}
 use Rattle.std.proofs.lemmas.Bool.{eqb-true, ne_eqb}
 use Rattle.std.proofs.Math.Seq.{take-add}
+use Rattle.std.specs.Io.KnownBytes.{WriteAppends}
 use Rattle.bcast_io.proofs.Citable.{Appends-nothing, Appends-then}
 use Rattle.explain_command.specs.declared.place.Place.{Place}
 
@@ -356,3 +357,8 @@ pub either_is : {T E : Type 0} (result : Result T E) (a b : Option (List ℕ)) (
     → MatchResult result (λ _. Appends a b xs) (λ _. AppendsPrefix a b xs) → MatchResult result (λ _. Appends a b ys) (λ _. AppendsPrefix a b ys)
 either_is (Ok x) a b xs ys is p = subst (Appends a b) is p
 either_is (Err e) a b xs ys is p = subst (AppendsPrefix a b) is p
+
+-- octets were written behind what was kept, or none
+pub keeps_write : {E : Type 0} (result : Result ℕ E) (a b c : Option (List ℕ)) (from : List ℕ) → Keeps a b → WriteAppends b c result from → WriteAppends a c result from
+keeps_write (Ok n) a b c from p q = keeps_appends a b c (take n from) p q
+keeps_write (Err e) a b c from p q = keeps_then a b c p q
