@@ -1,20 +1,27 @@
 //! Which PDUs of an event are lost, counted on from stream to stream.
 ghost use Rattle.std.specs.Prelude.{◌≡◌, ◌<◌, ◌≤◌, ◌+◌, ◌*◌, ◌^◌, ℕ};
-ghost use Rattle.replay_steps.specs.Losing.{CountsOn, LosesFrom};
+ghost use Rattle.radio_schedule.specs.Losing.{CountsOn, LosesFrom};
 
-use crate::grid::Grid;
+/// How many streams an event of a group has, and how many subevents each of them has: at most 31.
+#[derive(Clone, Copy)]
+pub struct Grid {
+    pub streams: u8,
+    pub subevents: u8,
+    pub ghost few_streams: { streams < 2 ^ 5 },
+    pub ghost few_subevents: { subevents < 2 ^ 5 },
+}
 
 /// The losses from a PDU of an event on. Of each `lose` PDUs the last one is lost, and none where that is 0.
 #[derive(Clone, Copy)]
-pub(crate) struct Losses {
-    lose: u8,
+pub struct Losses {
+    pub lose: u8,
     /// How many PDUs come before the next one that is lost.
-    before: u16,
+    pub before: u16,
 }
 
 impl Losses {
     /// The losses from the first PDU of an event on.
-    pub(crate) fn first(grid: Grid, event: u64, lose: u8) -> Losses
+    pub fn first(grid: Grid, event: u64, lose: u8) -> Losses
         requires { event < 2 ^ 39 }
         ensures lose { result.lose ≡ lose }
         ensures counted { CountsOn lose (event * grid.streams * grid.subevents) result.before }
@@ -31,7 +38,7 @@ impl Losses {
     }
 
     /// Tells which PDUs of the next stream are lost, by subevent from 0, where it has so many.
-    pub(crate) fn next(&mut self, subevents: u8, lost: &mut [bool; 31])
+    pub fn next(&mut self, subevents: u8, lost: &mut [bool; 31])
         requires { subevents ≤ 31 }
         ensures lose { self.new.lose ≡ self.old.lose }
         ensures counted { (count : ℕ) → CountsOn self.old.lose count self.old.before

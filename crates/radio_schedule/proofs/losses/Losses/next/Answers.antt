@@ -1,6 +1,7 @@
-use Rattle.replay_steps.proofs.Prelude.{◌+◌, refl, sym, ◌∙◌, ap, arith, length-set, lost_at}
-use Rattle.replay_steps.proofs.Losing.{counts_on, none_everywhere, none_marked, one_marked}
-use Rattle.replay_steps.proofs.losses.Losses.next.Goals as goal
+use Rattle.std.proofs.Common.{◌+◌, refl, sym, ◌∙◌, ap, arith, length-set}
+use Rattle.radio_schedule.specs.Losing.{lost_at}
+use Rattle.radio_schedule.proofs.Losing.{counts_on, none_everywhere, none_marked, one_marked}
+use Rattle.radio_schedule.proofs.losses.Losses.next.Goals as goal
 
 pub returns-then-self-eq0-clause-lost : goal.returns-then-self-eq0-clause-lost
 returns-then-self-eq0-clause-lost c count counts s below = none_everywhere 31 s ∙ sym (ap (λ l. lost_at l (count + s)) c.if-self-eq0.true)

@@ -1,5 +1,7 @@
 -- The PDUs of an event that are lost, counted on.
-use Rattle.replay_steps.proofs.Prelude.{◌≡◌, ℕ, ◌+◌, ◌%◌, ◌<◌, sym, ◌∙◌, ap, arith, List, true, false, Bool, ◌≤◌, ◌-◌, length, get_or, set, zero, suc, replicate, refl, get_or-set_other, get_or-set_same, inl, inr, cases_eq, cases_lt, eq-eqb, ne_eqb, lt-ltb, CountsOn, lost_at}
+use Rattle.std.proofs.Common.{◌≡◌, ℕ, ◌+◌, ◌%◌, ◌<◌, sym, ◌∙◌, ap, arith, List, true, false, Bool, ◌≤◌, ◌-◌, length, get_or, set, zero, suc, replicate, refl, get_or-set_other, get_or-set_same, inl, inr, eq-eqb, ne_eqb, lt-ltb}
+use Rattle.std.proofs.lemmas.Bool.{cases_eq, cases_lt}
+use Rattle.radio_schedule.specs.Losing.{CountsOn, lost_at}
 
 mod_near : (n lose e : ℕ) → n % lose + e < lose → (n + e) % lose ≡ n % lose + e
 mod_near n lose e below = grind arith

@@ -1,6 +1,7 @@
-use Rattle.replay_steps.proofs.Prelude.{ℕ, ◌≡◌, ◌-◌, length, CountsOn}
-use Rattle.replay_steps.proofs.Losing.{Marked}
-use Rattle.replay_steps.proofs.losses.Losses.next.Given as goal
+use Rattle.std.proofs.Common.{ℕ, ◌≡◌, ◌-◌, length}
+use Rattle.radio_schedule.specs.Losing.{CountsOn}
+use Rattle.radio_schedule.proofs.Losing.{Marked}
+use Rattle.radio_schedule.proofs.losses.Losses.next.Given as goal
 
 abbrev pub decreases-places : goal.decreases-places
 decreases-places l = l.count - l.place
