@@ -8,15 +8,15 @@ ghost use Rattle.replay_steps.specs.Unassigned.{UnassignedBy};
 ghost use Rattle.replay_lines.specs.Standing.{lines_over, standing_of};
 ghost use Rattle.replay_lines.specs.State.Runs.{Refuses};
 ghost use Rattle.replay_lines.specs.declared.ending.Ending.TheVariants as endings;
-ghost use Rattle.explain_command.specs.Rows.{lines_at, told_at};
+ghost use Rattle.explained_rows.specs.Rows.{lines_at, told_at};
 ghost use Rattle.explain_command.specs.Told.{EndsSo, told_world};
 ghost use Rattle.explain_command.specs.ToldDocument.{RefusalTold, ToldDocument, stopped_for};
 
 use crate::explain::explain;
-use crate::rows::ExplainedRows;
 use bcast_base::{Memory, Octets};
 use bcast_io::{ByteSink, ByteSource, Document, FaithfulSource, SinkFault, Unread, read_document};
 use document_notes::{put_no_form, put_no_toml};
+use explained_rows::ExplainedRows;
 use replay_lines::{Cause, Ending, want_of_memory_before_a_document};
 use scenario_toml::{TomlFault, lines_of};
 use std::alloc::Global;
