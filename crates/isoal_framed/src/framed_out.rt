@@ -215,7 +215,7 @@ impl FramedOut {
             → self.now.sent ≡ sent_by earlier
             → room self.now.info.max_pdu earlier ≡ self.now.info.max_pdu
             → IfOk result (λ packing. (own : List Act) × IsEvent self.now.info units anchor earlier own
-            × (event_of units anchor earlier (ends ∷ own) ≡ record { pdus = pdus.new; stale = packing.stale })
+            × (record { pdus = pdus.new; stale = packing.stale } ≡ event_of units anchor earlier (ends ∷ own))
             × (drop packing.past self.now.units ≡ drop (done (own ++ earlier)) units)
             × (packing.sent ≡ sent_by (own ++ earlier))) }
     {
