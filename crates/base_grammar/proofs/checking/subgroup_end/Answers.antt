@@ -8,7 +8,6 @@ returns-in_err-head-clause-exact c =
     λ before s. rw (p.1, p.2) (c.in_err-head.ensures.fault before)
 
 pub returns-clause-exact : goal.returns-clause-exact
-returns-clause-exact c =
-    λ before s.
-    subgroup_ends (λ left. left.now) c.entries_end.result c.entries_end.new.seen before c.in_ok-head.head.codec c.in_ok-head.head.config.now c.in_ok-head.head.metadata.now _ _
-    (c.in_ok-head.ensures.read before) (c.in_ok-head.ensures.unread before) (c.entries_end.ensures.exact before s)
+returns-clause-exact c before s =
+    let head = c.in_ok-head.ensures in
+    subgroup_ends (λ left. left.now) c.entries_end.result c.entries_end.new.seen before _ _ _ _ _ (head.read before) (head.unread before) (c.entries_end.ensures.exact before s)

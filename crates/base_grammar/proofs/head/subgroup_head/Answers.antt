@@ -21,13 +21,11 @@ returns-in_err-metadata-clause-fault c =
     rw (p.1, p.2) (λ before. subgroup_undescribed _ before _ _ _ _ _ _ _ _ c.in_ok-count.ensures.reads c.in_ok-codec.ensures.reads config c.in_err-metadata.ensures.reads)
 
 pub returns-clause-read : goal.returns-clause-read
-returns-clause-read c =
-    let config = rw c.is_lc3_codec-is_lc3.ensures at c.in_ok-config.ensures.reads in
-    λ before entries left is. subgroup_read _ before _ _ _ _ _ _ _ _ _ entries left c.in_ok-count.ensures.reads c.in_ok-codec.ensures.reads config c.in_ok-metadata.ensures.reads
-    (rw c.is_lc3_codec-is_lc3.ensures at is)
+returns-clause-read c before entries left is =
+    let e = c.is_lc3_codec-is_lc3.ensures in
+    subgroup_read _ before _ _ _ _ _ _ _ _ _ entries left c.in_ok-count.ensures.reads c.in_ok-codec.ensures.reads (rw e at c.in_ok-config.ensures.reads) c.in_ok-metadata.ensures.reads (rw e at is)
 
 pub returns-clause-unread : goal.returns-clause-unread
-returns-clause-unread c =
-    let config = rw c.is_lc3_codec-is_lc3.ensures at c.in_ok-config.ensures.reads in
-    λ before fault is. subgroup_unread _ before _ _ _ _ _ _ _ _ _ fault c.in_ok-count.ensures.reads c.in_ok-codec.ensures.reads config c.in_ok-metadata.ensures.reads
-    (rw c.is_lc3_codec-is_lc3.ensures at is)
+returns-clause-unread c before fault is =
+    let e = c.is_lc3_codec-is_lc3.ensures in
+    subgroup_unread _ before _ _ _ _ _ _ _ _ _ fault c.in_ok-count.ensures.reads c.in_ok-codec.ensures.reads (rw e at c.in_ok-config.ensures.reads) c.in_ok-metadata.ensures.reads (rw e at is)
