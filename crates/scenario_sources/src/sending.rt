@@ -14,7 +14,7 @@ ghost use Rattle.scenario_sources.specs.declared.phase.Phase.TheVariants.{Sendin
 ghost use Rattle.source_machine.specs.State.Sources.{Source};
 
 use crate::performed::Performed;
-use crate::phase::Phase;
+use crate::phase::{Phase, put_phase};
 use crate::terminated::Terminated;
 use bcast_base::{Bis, BisSet};
 use big_info::Group;
@@ -135,8 +135,8 @@ fn stop_sending(phase: &mut Phase)
     ensures { (started : Source) → phase.old ≡ SendingPhase started → phase.new ≡ StoppedPhase started }
 {
     match replace(phase, Phase::Absent) {
-        Phase::Sending(started) => *phase = Phase::Stopped(started),
-        other => *phase = other,
+        Phase::Sending(started) => put_phase(phase, Phase::Stopped(started)),
+        other => put_phase(phase, other),
     }
 }
 
