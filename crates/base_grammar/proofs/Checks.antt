@@ -156,30 +156,26 @@ pub subgroup_undescribed : (whole before rest : List ℕ) (count : ℕ) (r1 code
 unfolding subgroup_at
 subgroup_undescribed whole before rest count r1 codec r2 config r3 f a b c e = rw (a, b, c, e) refl
 
-subgroup_unread : (whole before rest : List ℕ) (count : ℕ) (r1 codec r2 config r3 metadata r4 : List ℕ) (f : BaseFault) → streams_at whole rest ≡ Ok (count, r1)
+pub subgroup_unread : (whole before rest : List ℕ) (count : ℕ) (r1 codec r2 config r3 metadata r4 : List ℕ) (f : BaseFault) → streams_at whole rest ≡ Ok (count, r1)
     → field_at whole r1 (octets_in 5 r1) ≡ Ok (codec, r2) → run_at whole (is_lc3 codec) r2 ≡ Ok (config, r3) → run_at whole true r3 ≡ Ok (metadata, r4)
     → entries_at whole (is_lc3 codec) before count r4 ≡ Err f → subgroup_at whole before rest ≡ Err f
 unfolding subgroup_at
 subgroup_unread whole before rest count r1 codec r2 config r3 metadata r4 f a b c d e = rw (a, b, c, d, e) refl
 
-subgroup_read : (whole before rest : List ℕ) (count : ℕ) (r1 codec r2 config r3 metadata r4 : List ℕ) (es : List BaseEntry) (left : List ℕ) → streams_at whole rest ≡ Ok (count, r1)
+pub subgroup_read : (whole before rest : List ℕ) (count : ℕ) (r1 codec r2 config r3 metadata r4 : List ℕ) (es : List BaseEntry) (left : List ℕ) → streams_at whole rest ≡ Ok (count, r1)
     → field_at whole r1 (octets_in 5 r1) ≡ Ok (codec, r2) → run_at whole (is_lc3 codec) r2 ≡ Ok (config, r3) → run_at whole true r3 ≡ Ok (metadata, r4)
     → entries_at whole (is_lc3 codec) before count r4 ≡ Ok (es, left)
     → subgroup_at whole before rest ≡ Ok (record { codec = codec; config = config; metadata = metadata; entries = es }, left)
 unfolding subgroup_at
 subgroup_read whole before rest count r1 codec r2 config r3 metadata r4 es left a b c d e = rw (a, b, c, d, e) refl
 
-pub subgroup_ends : {R : Type 0} (view : R → List ℕ) (result : Result R BaseFault) (set : ℕ) (whole before rest : List ℕ) (count : ℕ) (r1 codec r2 config r3 metadata r4 : List ℕ)
-    → streams_at whole rest ≡ Ok (count, r1) → field_at whole r1 (octets_in 5 r1) ≡ Ok (codec, r2) → run_at whole (is_lc3 codec) r2 ≡ Ok (config, r3)
-    → run_at whole true r3 ≡ Ok (metadata, r4) → Passes entries_bis before set view result (entries_at whole (is_lc3 codec) before count r4)
-    → Passes subgroup_bis before set view result (subgroup_at whole before rest)
-subgroup_ends view (Ok left) set whole before rest count r1 codec r2 config r3 metadata r4 a b c d p =
-    record {
-      value = record { codec = codec; config = config; metadata = metadata; entries = p.value };
-      same = subgroup_read whole before rest count r1 codec r2 config r3 metadata r4 p.value (view left) a b c d p.same;
-      seen = p.seen;
-    }
-subgroup_ends view result set whole before rest count r1 codec r2 config r3 metadata r4 a b c d p = search (subgroup_read, subgroup_unread)
+pub subgroup_ends : {R : Type 0} (view : R → List ℕ) (result : Result R BaseFault) (set : ℕ) (before codec config metadata : List ℕ)
+    (read : Result (List BaseEntry × List ℕ) BaseFault) (group : Result (Subgroup × List ℕ) BaseFault)
+    → ((entries : List BaseEntry) (left : List ℕ) → read ≡ Ok (entries, left) → group ≡ Ok (record { codec = codec; config = config; metadata = metadata; entries = entries }, left))
+    → ((fault : BaseFault) → read ≡ Err fault → group ≡ Err fault) → Passes entries_bis before set view result read → Passes subgroup_bis before set view result group
+subgroup_ends view (Ok left) set before codec config metadata read group ok err p =
+    record { value = record { codec = codec; config = config; metadata = metadata; entries = p.value }; same = ok p.value (view left) p.same; seen = p.seen }
+subgroup_ends view (Err fault) set before codec config metadata read group ok err p = err fault p
 
 -- ---- subgroups
 

@@ -7,9 +7,9 @@ ghost use Rattle.bcast_base.specs.Tries.{Reads};
 ghost use Rattle.base_grammar.specs.Reading.{index_at, entry_at, entries_at, subgroup_at, subgroups_at, rest_of, base_of};
 
 use crate::fault::BaseFault;
-use crate::fields::{codec_field, count_field, delay_field, octet_field, run_field, streams_field};
+use crate::fields::{count_field, delay_field, octet_field, run_field};
+use crate::head::subgroup_head;
 use crate::reading::MAX_OCTETS;
-use crate::subgroup::is_lc3_codec;
 use bcast_base::{Bis, BisSet, place_of};
 
 // What is wrong with octets that are no BASE.
@@ -51,12 +51,8 @@ fn subgroup_end<'a>(whole: &[u8], rest: &'a [u8], seen: &mut BisSet) -> Result<&
         → Passes subgroup_bis before seen.new (λ left. left.now) result (subgroup_at whole.now before rest.now) }
     ensures shorter { IfOk result (λ left. length left.now ≤ length rest.now) }
 {
-    let (count, rest) = streams_field(whole, rest)?;
-    let (codec, rest) = codec_field(whole, rest)?;
-    let is_lc3 = is_lc3_codec(&codec);
-    let (_config, rest) = run_field(whole, rest, is_lc3)?;
-    let (_metadata, rest) = run_field(whole, rest, true)?;
-    entries_end(whole, rest, seen, count, is_lc3)
+    let head = subgroup_head(whole, rest)?;
+    entries_end(whole, head.rest, seen, head.count, head.is_lc3)
 }
 
 // The octets behind so many entries.

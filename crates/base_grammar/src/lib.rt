@@ -10,6 +10,7 @@ mod draft_steps;
 mod effective;
 mod fault;
 mod fields;
+mod head;
 mod laws;
 mod parts;
 mod reading;

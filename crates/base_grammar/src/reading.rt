@@ -7,8 +7,9 @@ ghost use Rattle.base_grammar.specs.Reading.{told, entry_at, entries_at, subgrou
 use crate::base::Base;
 use crate::checking::check_base;
 use crate::fault::BaseFault;
-use crate::fields::{codec_field, count_field, delay_field, index_field, run_field, streams_field};
-use crate::subgroup::{BaseEntry, Entries, Subgroup, is_lc3_codec};
+use crate::fields::{count_field, delay_field, index_field, run_field};
+use crate::head::subgroup_head;
+use crate::subgroup::{BaseEntry, Entries, Subgroup};
 use bcast_base::{Octets, place_of};
 use std::alloc::Global;
 
@@ -66,7 +67,6 @@ fn entries_of<'a>(
 }
 
 // A subgroup, behind these.
-#[tactic(auto, unfolding(crate::specs::Reading::subgroup_at))]
 fn subgroup_of<'a>(
     alloc: Global,
     whole: &[u8],
@@ -77,19 +77,22 @@ fn subgroup_of<'a>(
     ensures gives { GivesOrWants told (λ x. (x.0, x.1.now)) result (subgroup_at whole.now (indices subgroups.now) rest.now) }
     ensures shorter { IfOk result (λ x. length x.1.now ≤ length rest.now) }
 {
-    let (count, rest) = streams_field(whole, rest)?;
-    let (codec, rest) = codec_field(whole, rest)?;
-    let is_lc3 = is_lc3_codec(&codec);
-    let (config, rest) = run_field(whole, rest, is_lc3)?;
-    let (metadata, rest) = run_field(whole, rest, true)?;
-    let (entries, rest) = match entries_of(alloc, whole, rest, subgroups, count, is_lc3) {
+    let head = subgroup_head(whole, rest)?;
+    let (entries, rest) = match entries_of(
+        alloc,
+        whole,
+        head.rest,
+        subgroups,
+        head.count,
+        head.is_lc3,
+    ) {
         Ok(field) => field,
         Err(fault) => return Err(fault),
     };
-    let config = Octets::copy(alloc, config)?;
-    let metadata = Octets::copy(alloc, metadata)?;
+    let config = Octets::copy(alloc, head.config)?;
+    let metadata = Octets::copy(alloc, head.metadata)?;
     let subgroup = Subgroup {
-        codec,
+        codec: head.codec,
         config,
         metadata,
         entries,

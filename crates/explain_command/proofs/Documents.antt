@@ -12,7 +12,7 @@ use Rattle.replay_lines.specs.State.Runs.{Refuses, RefusesDocument, over_text}
 use Rattle.replay_lines.specs.World.{World}
 use Rattle.replay_lines.proofs.Citable.{ending_is, failed_toml, ran_toml, refused_toml, wanting_toml}
 use Rattle.explain_command.specs.ToldDocument.{LinesOf, RefusalTold, ToldDocument, as_told_of, stopped_for}
-use Rattle.explain_command.proofs.Telling.{keeps_itself}
+use Rattle.explained_rows.proofs.Citable.{keeps_itself}
 
 -- the outside behind the run of a document
 abbrev pub behind : Option (List ℕ) → ℕ → Option (List ℕ) → ℕ → List Account → World

@@ -1,3 +1,2 @@
 mod Prelude
 mod Documents
-mod Telling

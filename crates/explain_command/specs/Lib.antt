@@ -1,5 +1,4 @@
 pub mod Boxes
-pub mod Rows
 pub mod Statuses
 pub mod Told
 pub mod ToldDocument

@@ -3,7 +3,7 @@
 use Rattle.std.specs.Prelude.{ℕ, ◌≡◌, ◌⊎◌, List, Option, None}
 use Rattle.std.specs.Io.KnownBytes.{Keeps}
 use Rattle.bcast_base.specs.Counts.{Rose}
-use Rattle.explain_command.specs.Rows.{Rows, line_row, told_at}
+use Rattle.explained_rows.specs.Rows.{Rows, line_row, told_at}
 use Rattle.replay_lines.specs.Heard.{Heard}
 use Rattle.replay_lines.specs.Listening.{Told as LinesTold}
 use Rattle.replay_lines.specs.World.{World}

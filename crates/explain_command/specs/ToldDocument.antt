@@ -3,7 +3,7 @@
 use Rattle.std.specs.Prelude.{ℕ, ◌≡◌, ◌≢◌, ◌⊎◌, true, List, Option, None, Some, Ok, Err}
 use Rattle.std.specs.Io.KnownBytes.{Keeps}
 use Rattle.bcast_base.specs.Counts.{Rose}
-use Rattle.explain_command.specs.Rows.{line_row}
+use Rattle.explained_rows.specs.Rows.{line_row}
 use Rattle.explain_command.specs.Told.{EndsSo}
 use Rattle.replay_lines.specs.Documents.{DocumentIs}
 use Rattle.replay_lines.specs.FromToml.{FromToml, TomlEnding}

@@ -8,15 +8,15 @@ ghost use Rattle.replay_steps.specs.Unassigned.{UnassignedBy};
 ghost use Rattle.replay_lines.specs.Standing.{lines_over, standing_of};
 ghost use Rattle.replay_lines.specs.State.Runs.{Refuses};
 ghost use Rattle.replay_lines.specs.declared.ending.Ending.TheVariants as endings;
-ghost use Rattle.explain_command.specs.Rows.{lines_at, told_at};
+ghost use Rattle.explained_rows.specs.Rows.{lines_at, told_at};
 ghost use Rattle.explain_command.specs.Told.{EndsSo, told_world};
 ghost use Rattle.explain_command.specs.ToldDocument.{RefusalTold, ToldDocument, stopped_for};
 
 use crate::explain::explain;
-use crate::rows::ExplainedRows;
 use bcast_base::{Memory, Octets};
 use bcast_io::{ByteSink, ByteSource, Document, FaithfulSource, SinkFault, Unread, read_document};
 use document_notes::{put_no_form, put_no_toml};
+use explained_rows::ExplainedRows;
 use replay_lines::{Cause, Ending, want_of_memory_before_a_document};
 use scenario_toml::{TomlFault, lines_of};
 use std::alloc::Global;
@@ -81,7 +81,7 @@ fn refuse<W: ByteSink + Drop>(
 }
 
 /// Writes the line of the refusal of a document.
-#[tactic(auto, using(crate::proofs::Telling::prefix_none, crate::proofs::Telling::keeps_itself))]
+#[tactic(auto, using(explained_rows::proofs::Citable::prefix_none, explained_rows::proofs::Citable::keeps_itself))]
 fn write_refusal<W: ByteSink + Drop>(
     alloc: Global,
     cause: Cause,
@@ -104,7 +104,7 @@ fn write_refusal<W: ByteSink + Drop>(
 }
 
 /// Tells the notes of the refusal of a document, where its line was written.
-#[tactic(auto, using(crate::proofs::Telling::keeps_itself))]
+#[tactic(auto, using(explained_rows::proofs::Citable::keeps_itself))]
 fn tell_refusal<W: ByteSink + Drop>(
     alloc: Global,
     ran: Result<Ending, Cause>,

@@ -3,12 +3,12 @@ ghost use Rattle.bcast_io.specs.TextLines.{lines_of};
 ghost use Rattle.scenario_history.specs.Airs.{MeetAirs};
 ghost use Rattle.source_machine.specs.Airs.{Airs};
 ghost use Rattle.replay_steps.specs.Unassigned.{UnassignedBy};
-ghost use Rattle.explain_command.specs.Rows.{lines_at};
+ghost use Rattle.explained_rows.specs.Rows.{lines_at};
 ghost use Rattle.explain_command.specs.Told.{Told, told_world};
 
 use crate::explainer::Explainer;
-use crate::rows::ExplainedRows;
 use bcast_io::{ByteSink, ByteSource};
+use explained_rows::ExplainedRows;
 use replay_lines::{Ending, run_heard};
 use std::alloc::Global;
 use unit_outlets::Outlet;

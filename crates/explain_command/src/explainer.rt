@@ -1,12 +1,12 @@
 //! What goes along with a run and explains it.
 ghost use Rattle.std.specs.Prelude.{◌≡◌, ◌++◌, OnOk};
 ghost use Rattle.std.specs.Io.KnownBytes.{Keeps};
-ghost use Rattle.explain_command.specs.Rows.{line_row, lines_at, told_at};
+ghost use Rattle.explained_rows.specs.Rows.{line_row, lines_at, told_at};
 ghost use Rattle.explain_command.specs.Told.{EndsSo};
 
-use crate::rows::ExplainedRows;
 use bcast_base::{Memory, Octets};
 use bcast_io::{ByteSink, SinkFault};
+use explained_rows::ExplainedRows;
 use itoa::Buffer;
 use replay_lines::{Ending, Listener};
 use replay_steps::Machine;
@@ -71,7 +71,7 @@ impl Explainer {
 
 impl<W: ByteSink + Drop> Listener<ExplainedRows<W>> for Explainer {
     ghost use Rattle.std.specs.Prelude.{true, None};
-    ghost use Rattle.explain_command.specs.Rows.{line_row, lines_at};
+    ghost use Rattle.explained_rows.specs.Rows.{line_row, lines_at};
 
     ghost may_fail = { true };
 

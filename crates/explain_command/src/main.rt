@@ -4,16 +4,14 @@
 mod document;
 mod explain;
 mod explainer;
-mod place;
 mod program;
-mod rows;
 mod status;
 
 use bcast_base::Memory;
 use bcast_io::{ReadSource, WriteSink};
+use explained_rows::ExplainedRows;
 use program::{Form, explain_with_tallies};
 use replay_lines::Ending;
-use rows::ExplainedRows;
 use status::Status;
 use std::io::Read;
 use std::process::ExitCode;

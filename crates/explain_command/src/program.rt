@@ -1,17 +1,17 @@
 //! The program over a source and a sink: what it is given, and its boxes.
 ghost use Rattle.std.specs.Prelude.{◌≡◌, ℕ, List, Some, map, IfOk};
 ghost use Rattle.unit_outlets.specs.Account.{Account};
+ghost use Rattle.explained_rows.specs.Rows.{lines_at};
 ghost use Rattle.explain_command.specs.Boxes.{fresh_boxes};
-ghost use Rattle.explain_command.specs.Rows.{lines_at};
 ghost use Rattle.explain_command.specs.Told.{told_world};
 ghost use Rattle.explain_command.specs.ToldIn.{ToldIn};
 
 use crate::document::explain_toml;
 use crate::explain::explain;
-use crate::rows::ExplainedRows;
 use crate::status::Status;
 use bcast_base::Memory;
 use bcast_io::{ByteSink, ByteSource};
+use explained_rows::ExplainedRows;
 use std::alloc::Global;
 use unit_outlets::{Outlet, Tally};
 

@@ -92,21 +92,28 @@ impl FramedOut {
         ensures fault { IfErr result (λ fault. PutFaultIs self.old limit time octets.now fault) }
         ensures err { OnErr result (self.new ≡ self.old) }
     {
+        self.check(time, limit, octets)?;
+        let octets = self.spares.copy(octets)?;
+        self.queue.push_back(Unit { time, octets })?;
+        self.last = Some(time);
+        Ok(())
+    }
+
+    /// Whether a unit may wait, or why it is refused.
+    #[inline(always)]
+    fn check(&self, time: u64, limit: Option<u64>, octets: &[u8]) -> Result<(), PutFault>
+        ensures may_wait { OnOk result (MayWait self.now limit time octets.now) }
+        ensures fault { IfErr result (λ fault. PutFaultIs self.now limit time octets.now fault) }
+    {
         if octets.len() > usize::from(self.group.info.max_sdu) {
             return Err(PutFault::TooLong);
         }
-        if !is_above(self.last, time) || is_past(limit, time) {
+        if !self.is_in_order(time, limit) {
             return Err(PutFault::TimeOrder);
         }
         if self.waiting() >= BACKLOG {
             return Err(PutFault::Backlog);
         }
-        let unit = Unit {
-            time,
-            octets: self.spares.copy(octets)?,
-        };
-        self.queue.push_back(unit)?;
-        self.last = Some(time);
         Ok(())
     }
 
@@ -167,8 +174,7 @@ impl FramedOut {
             × (event_of units anchor earlier (ends ∷ own) ≡ record { pdus = pdus.new; stale = stale })
             × (self.new ≡ record self.old { units = drop (done (own ++ earlier)) units; sent = sent_by (own ++ earlier) })) }
     {
-        let mut packing = self.packing();
-        pack_pdus(&self.group, &self.queue, anchor, &mut packing, pdus)?;
+        let packing = self.packed(anchor, pdus)?;
         Ok(self.take_packed(packing))
     }
 
@@ -184,8 +190,7 @@ impl FramedOut {
             × (self.new ≡ record self.old { units = drop (done (own ++ earlier)) units; sent = sent_by (own ++ earlier) })) }
     {
         let mut laid = LaidPdus::new(self.alloc);
-        let mut packing = self.packing();
-        pack_pdus(&self.group, &self.queue, anchor, &mut packing, &mut laid)?;
+        let packing = self.packed(anchor, &mut laid)?;
         let pdus = laid.copied()?;
         let stale = self.take_packed(packing);
         Ok(EventLaid { pdus, stale })
@@ -202,18 +207,26 @@ impl FramedOut {
         packing.stale
     }
 
-    /// An event that begins to be laid.
-    fn packing(&self) -> Packing
-        ensures past { result.past ≡ 0 }
-        ensures sent { result.sent ≡ self.now.sent }
-        ensures stale { result.stale ≡ [] }
+    /// What the next event takes of the units that wait, and its PDUs in the place of others.
+    fn packed(&self, anchor: u64, pdus: &mut LaidPdus) -> Result<Packing, Memory>
+        ensures partly { IfOk result (λ packing. IsPartly packing.sent (drop packing.past self.now.units)) }
+        ensures count { OnOk result (length pdus.new ≡ self.now.info.bn) }
+        ensures laid { (units : List Timed) (earlier : List Act) → self.now.units ≡ drop (done earlier) units
+            → self.now.sent ≡ sent_by earlier
+            → room self.now.info.max_pdu earlier ≡ self.now.info.max_pdu
+            → IfOk result (λ packing. (own : List Act) × IsEvent self.now.info units anchor earlier own
+            × (record { pdus = pdus.new; stale = packing.stale } ≡ event_of units anchor earlier (ends ∷ own))
+            × (drop packing.past self.now.units ≡ drop (done (own ++ earlier)) units)
+            × (packing.sent ≡ sent_by (own ++ earlier))) }
     {
-        Packing {
+        let mut packing = Packing {
             pdu: FramedPdu::new(self.group.info.max_pdu),
             past: 0,
             sent: self.sent,
             stale: Times::new(self.alloc),
-        }
+        };
+        pack_pdus(&self.group, &self.queue, anchor, &mut packing, pdus)?;
+        Ok(packing)
     }
 }
 

@@ -7,7 +7,7 @@ ghost use Rattle.isoal_base.specs.Air.{laid_in};
 ghost use Rattle.isoal_unframed.specs.State.Sender.{MayWait, PutFaultIs, StandsFor, after_event, event_pdus, with_unit};
 
 use crate::slots::lay_slots;
-use bcast_base::{Memory, Octets, Times};
+use bcast_base::{EventPdus, Memory, Octets, Times};
 use big_info::Group;
 use isoal_base::{EventLaid, LaidPdus, PutFault, SpareOctets};
 use std::alloc::Global;
@@ -78,7 +78,8 @@ impl UnframedOut {
         if self.waiting.len() >= BACKLOG {
             return Err(PutFault::Backlog);
         }
-        self.waiting.push_back(self.spares.copy(octets)?)?;
+        let unit = self.spares.copy(octets)?;
+        self.waiting.push_back(unit)?;
         Ok(())
     }
 
@@ -133,14 +134,22 @@ impl UnframedOut {
             × (self.new ≡ after_event self.old)) }
         ensures err { OnErr result (self.new ≡ self.old) }
     {
-        let mut laid = LaidPdus::new(self.alloc);
-        lay_slots(&self.group, &self.waiting, &mut laid)?;
-        let pdus = laid.copied()?;
+        let pdus = self.laid_slots()?;
         self.pop_slots();
         Ok(EventLaid {
             pdus,
             stale: Times::new(self.alloc),
         })
+    }
+
+    /// The PDUs of the next event, whose slots take the units that wait.
+    fn laid_slots(&self) -> Result<EventPdus, Memory>
+        ensures whole { self.now.info.bn ≡ per_event_of self.now.info * per_unit_of self.now.info }
+        ensures ok { IfOk result (λ pdus. pdus ≡ event_pdus self.now.info self.now.waiting) }
+    {
+        let mut laid = LaidPdus::new(self.alloc);
+        lay_slots(&self.group, &self.waiting, &mut laid)?;
+        laid.copied()
     }
 
     /// Takes the units out of the queue that the slots of an event took.

@@ -2,7 +2,7 @@
 use Rattle.replay_steps.proofs.Prelude.{◌≡◌, ℕ, ◌+◌, ◌*◌, ◌<◌, ◌≤◌, ◌++◌, ◌∷◌, Bool, true, false, not, if◌then◌else◌, List, length, Option, None, Some, option_map, Ok, Err, refl, sym, ◌∙◌, ap, subst, arith, le-ltb, option_or, Account, airs_of, Call, heard_line, Refusal, Order, Stop, Refused, OutletFault, Memory, Step, Air, Hear, Inject, chosen_of, chosen_steps, running, stage_of, event_back, is_heard, pdu_in, performed, setup_of, source_calls, air_refusal, no_place, no_sink, phase_refusal, source_refusal, refuse_if, Sinks, SinksStand, stands_same, Machine, OnAir, Reaches, histories_on_air, Stands, histories_of, Quiet, Tells, inl, inr, cases_lt, air_fault, with_heard, SentIs, suc, [], BigInfo, hear_at, heard_on_air, is_lost, position_at, unless_lost, range_with_len, zero, ◌-◌, get_or, div-mul-add, mod-mul-add, map, slice_get, slice_index_or, hear, heard_first, heard_where, Position, LosesFrom, lost_at, unlost}
 use Rattle.isoal_base.specs.declared.hearing.Hearing.{Hearing}
 use Rattle.scenario_sinks.specs.Hearing.{Hears}
-use Rattle.replay_steps.specs.declared.grid.Grid.{Grid}
+use Rattle.radio_schedule.specs.declared.losses.Grid.{Grid}
 use Rattle.replay_steps.proofs.Stepping.{as_step, minds_relays}
 use Rattle.std.proofs.lemmas.List.FromFn.{get_or-map-range_with_len, length-map-range_with_len}
 use Rattle.std.proofs.lemmas.Option.{slice_get-get_or}

@@ -3,7 +3,6 @@ pub mod Stepping
 pub mod SinkCalling
 pub mod SinkLines
 pub mod Airing
-pub mod Losing
 pub mod Closing
 pub mod Ending
 pub mod StepLaws

@@ -17,10 +17,10 @@ pub use Rattle.big_info.specs.declared.info.BigInfo.{BigInfo}
 pub use Rattle.delegator_history.specs.Trains.{Settings}
 pub use Rattle.group_sink.specs.Calls.{Call, hear, heard_first, heard_where}
 pub use Rattle.group_sink.specs.Handing.{handed_at}
+pub use Rattle.radio_schedule.specs.Losing.{LosesFrom, lost_at, unlost, CountsOn}
 pub use Rattle.replay_steps.specs.Airing.{OnAir, histories_on_air, Reaches}
 pub use Rattle.replay_steps.specs.Between.{FirstBetween, with_closes_below}
 pub use Rattle.replay_steps.specs.Failing.{CloseFails, printed_before}
-pub use Rattle.replay_steps.specs.Losing.{LosesFrom, lost_at, unlost, CountsOn}
 pub use Rattle.replay_steps.specs.Machines.{Stands, histories_of, relay_histories, lent}
 pub use Rattle.replay_steps.specs.Meets.{Quiet, phase_line, Tells, BoxesStand, Meets, StepMeets, Becomes}
 pub use Rattle.replay_steps.specs.Relaying.{FirstMeets, ComponentsStand, SinkMeets, answer_lines, lines_at, lines_below, offers_below, offers_of, units_below, OffersMeet, Closes, GivesSecond, Drops, FirstFails}

@@ -15,7 +15,7 @@ use Rattle.sink_history.specs.History.{made_of}
 use Rattle.scenario_history.specs.Refusals.{no_sink}
 use Rattle.sink_history.specs.Refusals.{refuse_if}
 use Rattle.scenario_sinks.specs.Histories.{Histories}
-use Rattle.replay_steps.specs.declared.grid.Grid.{Grid}
+use Rattle.radio_schedule.specs.declared.losses.Grid.{Grid}
 
 -- a PDU of the chosen source may be handed to a sink: the source was started, its events have this grid, and the sink lives
 abbrev pub Reaches : List Step → ℕ → Result Grid Stop → Type 0

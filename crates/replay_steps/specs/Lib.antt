@@ -5,7 +5,6 @@ pub mod Meets
 pub mod Operations
 pub mod LineMeets
 pub mod Airing
-pub mod Losing
 pub mod Unassigned
 pub mod Relaying
 pub mod Between

@@ -1,6 +1,7 @@
 //! The steps that bring PDUs of the air to the sinks and to the transcript.
 ghost use Rattle.std.specs.Prelude.{◌≡◌, ◌≤◌, ◌<◌, ◌+◌, ◌-◌, ◌*◌, ◌^◌, ◌∷◌, ℕ, List};
 ghost use Rattle.unit_outlets.specs.Account.{Account};
+ghost use Rattle.radio_schedule.specs.Losing.{LosesFrom};
 ghost use Rattle.scenario_text.specs.declared.step.Step.{Step};
 ghost use Rattle.scenario_text.specs.declared.step.Step.TheVariants.{Hear as HearStep, Air as AirStep};
 ghost use Rattle.scenario_text.specs.declared.step.Step.TheVariants.{Inject as InjectStep, Sniff as SniffStep};
@@ -8,15 +9,13 @@ ghost use Rattle.scenario_history.specs.Steps.{running, stage_of};
 ghost use Rattle.scenario_sources.specs.State.Standing.{SourcesStand};
 ghost use Rattle.scenario_sinks.specs.State.Standing.{SinksStand};
 ghost use Rattle.replay_steps.specs.Airing.{OnAir, Reaches, histories_on_air};
-ghost use Rattle.replay_steps.specs.Losing.{LosesFrom};
 ghost use Rattle.replay_steps.specs.Machines.{Stands, histories_of};
 ghost use Rattle.replay_steps.specs.Meets.{Quiet, Tells};
 
-use crate::grid::Grid;
 use crate::heard_event::HeardEvent;
-use crate::losses::Losses;
 use crate::machine::Machine;
 use bcast_base::{Bis, Memory, Octets};
+use radio_schedule::{Grid, Losses};
 use scenario_sinks::Sinks;
 use scenario_sources::{Place, Sources};
 use transcript_text::{Refusal, Stop, put_heard, put_pdu};

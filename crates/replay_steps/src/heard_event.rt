@@ -24,7 +24,7 @@ impl<'a> HeardEvent<'a> {
 }
 
 impl<'a> StreamEvent for HeardEvent<'a> {
-    ghost use Rattle.replay_steps.specs.Losing.{unlost};
+    ghost use Rattle.radio_schedule.specs.Losing.{unlost};
 
     ghost pdus = { λ heard. unlost heard.sent.now heard.lost.now };
 

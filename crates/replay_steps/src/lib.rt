@@ -3,10 +3,8 @@
 
 mod air_steps;
 mod close_steps;
-mod grid;
 mod heard_event;
 mod line_steps;
-mod losses;
 mod machine;
 mod operations;
 mod questions;

@@ -24,15 +24,15 @@ pub fn group(words: &mut Cursor<'_>) -> Result<Step, Misfit>
         iso: words.bits(12)? as u16,
         sdu: words.bits(20)?,
         max_sdu: words.bits(12)? as u16,
-        max_pdu: words.bits(8)? as u8,
-        num_bis: words.bits(5)? as u8,
-        bn: words.bits(3)? as u8,
-        nse: words.bits(5)? as u8,
-        irc: words.bits(4)? as u8,
-        pto: words.bits(4)? as u8,
+        max_pdu: words.octet(0, 255)?,
+        num_bis: words.octet(0, 31)?,
+        bn: words.octet(0, 7)?,
+        nse: words.octet(0, 31)?,
+        irc: words.octet(0, 15)?,
+        pto: words.octet(0, 15)?,
         sub: words.bits(20)?,
         spacing: words.bits(20)?,
-        phy: words.bits(3)? as u8,
+        phy: words.octet(0, 7)?,
     })
 }
 

@@ -1,7 +1,9 @@
 //! The first words of the lines of a sink and of those of version 2 alone.
-ghost use Rattle.std.specs.Prelude.{◌≡◌, Err};
+ghost use Rattle.std.specs.Prelude.{◌≡◌, ◌≢◌, Err, Result};
+ghost use Rattle.scenario_words.specs.declared.fault.LineFault.{LineFault};
 ghost use Rattle.scenario_words.specs.declared.fault.LineFault.TheVariants.{Memory as NoMemory};
-ghost use Rattle.scenario_words.specs.Reading.{GivesNext, ReadsNext};
+ghost use Rattle.scenario_words.specs.Reading.{GivesNext, Left, ReadsNext};
+ghost use Rattle.scenario_text.specs.declared.step.Step.{Step};
 ghost use Rattle.scenario_text.specs.Steps.{at_known};
 ghost use Rattle.scenario_lines.specs.Taking.{RowTakes};
 ghost use Rattle.scenario_text.specs.Table.{sink_row_of, link_row_of, row_of_2, link_row_of_2};
@@ -10,6 +12,15 @@ use crate::{later_lines, sink_lines};
 use scenario_text::Step;
 use scenario_words::{Cursor, LineFault, Misfit, is_word};
 use std::alloc::Global;
+
+/// The step that was read without taking memory, or BadLine.
+pub(crate) fn without_memory(read: Result<Step, Misfit>) -> Result<Step, LineFault>
+    ensures gives { (left : Left) (row : Result (Step × Left) LineFault)
+        → ReadsNext (λ step. step) read left row → GivesNext (λ step. step) result left row }
+    ensures memory { result ≢ Err NoMemory }
+{
+    Ok(read?)
+}
 
 /// The step that the words behind this first word spell, where it is that of a line of a sink, or in version 2 that of a line
 /// of version 2 alone. BadLine has number 0 for any other first word, and else that of the words that fit. Memory comes only at a
@@ -28,10 +39,10 @@ pub fn named_of_sink(
         return sink_lines::pac(alloc, words);
     }
     if is_word(name, b"locate") {
-        return Ok(sink_lines::locate(words)?);
+        return without_memory(sink_lines::locate(words));
     }
     if is_word(name, b"context") {
-        return Ok(sink_lines::context(words)?);
+        return without_memory(sink_lines::context(words));
     }
     if is_word(name, b"write") {
         return sink_lines::write(alloc, words);
@@ -43,10 +54,10 @@ pub fn named_of_sink(
         return sink_lines::modify(alloc, words);
     }
     if is_word(name, b"remove") {
-        return Ok(sink_lines::remove(words)?);
+        return without_memory(sink_lines::remove(words));
     }
     if is_word(name, b"code") {
-        return Ok(sink_lines::code(words)?);
+        return without_memory(sink_lines::code(words));
     }
     named_of_link(alloc, version, name, words)
 }
@@ -114,7 +125,7 @@ fn named_of_2(
         return Ok(Step::Assist { sink, link });
     }
     if is_word(name, b"apart") {
-        return Ok(later_lines::apart(words)?);
+        return without_memory(later_lines::apart(words));
     }
     if is_word(name, b"awrite") {
         return later_lines::awrite(alloc, words);
@@ -124,9 +135,9 @@ fn named_of_2(
         return Ok(Step::Source { source });
     }
     if is_word(name, b"relay") {
-        return Ok(later_lines::relay(words)?);
+        return without_memory(later_lines::relay(words));
     }
-    Ok(named_of_link_2(name, words)?)
+    without_memory(named_of_link_2(name, words))
 }
 
 /// The step where the first word is that of a line of any link, all of which are of version 2.

@@ -9,6 +9,7 @@ ghost use Rattle.scenario_text.specs.Misfits.{IsMisfit};
 ghost use Rattle.scenario_lines.specs.Taking.{LineTakes, RowTakes};
 ghost use Rattle.scenario_text.specs.declared.step.Step.{Step};
 
+use crate::names::without_memory;
 use crate::{first_lines, named_of_sink, source_lines};
 use bcast_base::Octets;
 use scenario_text::Step;
@@ -128,16 +129,16 @@ fn named(
         return Ok(Step::Event);
     }
     if is_word(name, b"hear") {
-        return Ok(first_lines::hear(words)?);
+        return without_memory(first_lines::hear(words));
     }
     if is_word(name, b"air") {
-        return Ok(first_lines::air(words)?);
+        return without_memory(first_lines::air(words));
     }
     if is_word(name, b"inject") {
         return first_lines::inject(alloc, words);
     }
     if is_word(name, b"sniff") {
-        return Ok(first_lines::sniff(words)?);
+        return without_memory(first_lines::sniff(words));
     }
     named_of_first(alloc, version, name, words)
 }
@@ -158,17 +159,17 @@ fn named_of_first(
         return Ok(Step::Scenario { version });
     }
     if is_word(name, b"group") {
-        return Ok(first_lines::group(words)?);
+        return without_memory(first_lines::group(words));
     }
     if is_word(name, b"start") {
         let first = words.number(0, 549_755_813_887)?;
         return Ok(Step::Start { first });
     }
     if is_word(name, b"sink") {
-        return Ok(first_lines::sink(version, words)?);
+        return without_memory(first_lines::sink(version, words));
     }
     if is_word(name, b"tuned") {
-        return Ok(first_lines::tuned(words)?);
+        return without_memory(first_lines::tuned(words));
     }
     if is_word(name, b"drop") {
         let sink = words.octet(0, 7)?;
@@ -195,7 +196,7 @@ fn named_of_source(
     ensures memory { result ≡ Err NoMemory → RowTakes (source_row_of version name.now) words.old }
 {
     if is_word(name, b"ident") {
-        return Ok(source_lines::ident(words)?);
+        return without_memory(source_lines::ident(words));
     }
     if is_word(name, b"subgroup") {
         return source_lines::subgroup(alloc, words);
@@ -207,7 +208,7 @@ fn named_of_source(
         return source_lines::bis(alloc, words);
     }
     if is_word(name, b"cipher") {
-        return Ok(source_lines::cipher(words)?);
+        return without_memory(source_lines::cipher(words));
     }
     if is_word(name, b"announce") {
         let sink = words.octet(0, 7)?;

@@ -1,4 +1,4 @@
-ghost use Rattle.std.specs.Prelude.{◌≡◌, ◌≤◌, ◌<◌, ◌^◌, ◌++◌, vec_len, IfOk, OnOk, List, map, replicate, is_some, None, Option};
+ghost use Rattle.std.specs.Prelude.{◌≡◌, ◌≤◌, ◌<◌, ◌^◌, ◌++◌, vec_len, IfOk, OnOk, List, map, replicate, slice_set, is_some, None, Option};
 ghost use Rattle.std.specs.Option.{ForSome};
 
 use crate::close::close_sinks;
@@ -97,10 +97,8 @@ impl Sinks {
         let Ok(living) = LinkedSink::new(self.alloc, streams, slots, horizon, mtu) else {
             return Err(Stop::Memory);
         };
-        self.entries[place] = Some(Sink {
-            outlet: self.outlet_count,
-            living,
-        });
+        let outlet = self.outlet_count;
+        put_entry(&mut self.entries, place, Some(Sink { outlet, living }));
         self.outlet_count += 1;
         Ok(())
     }
@@ -126,7 +124,7 @@ impl Sinks {
             Ok(()) => {}
             Err(Memory) => return Err(Stop::Memory),
         }
-        self.entries[usize::from(sink)] = None;
+        put_entry(&mut self.entries, usize::from(sink), None);
         Ok(())
     }
 
@@ -322,4 +320,13 @@ fn no_sinks(alloc: Global) -> Result<Vec<Option<Sink>>, Memory>
         }
     }
     Ok(sinks)
+}
+
+/// Puts an entry in the place of another.
+fn put_entry(entries: &mut Vec<Option<Sink>>, place: usize, entry: Option<Sink>)
+    requires { place < vec_len entries.old }
+    ensures entries { entries.new.items ≡ slice_set entries.old.items place entry }
+    ensures count { vec_len entries.new ≡ vec_len entries.old }
+{
+    entries[place] = entry;
 }

@@ -6,7 +6,7 @@ ghost use Rattle.scenario_text.specs.declared.step.Step.TheVariants.{Ident as Id
 ghost use Rattle.scenario_sources.specs.Described.{IsPlain, group_step};
 ghost use Rattle.scenario_sources.specs.State.Phases.{Becomes, PhaseIs};
 
-use crate::phase::{Described, Phase};
+use crate::phase::{Described, Phase, put_phase};
 use base_grammar::BaseDraft;
 use big_info::{BigInfo, Cipher};
 use source_machine::Identity;
@@ -31,13 +31,14 @@ pub(crate) fn describe(
     let Phase::Absent = phase else {
         return Err(Stop::Refused(Refusal::Order));
     };
-    *phase = Phase::Described(Described {
+    let described = Described {
         info,
         origin,
         delay,
         identity: None,
         base: BaseDraft::new(alloc, delay),
-    });
+    };
+    put_phase(phase, Phase::Described(described));
     Ok(())
 }
 

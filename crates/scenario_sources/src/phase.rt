@@ -36,3 +36,10 @@ pub(crate) enum Phase {
     /// It was stopped. What it sent is still heard.
     Stopped(Broadcast),
 }
+
+/// Puts a source where it stands next.
+pub(crate) fn put_phase(phase: &mut Phase, next: Phase)
+    ensures { phase.new ≡ next }
+{
+    *phase = next;
+}

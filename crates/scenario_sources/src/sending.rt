@@ -10,9 +10,11 @@ ghost use Rattle.scenario_sources.specs.State.Phases.{Becomes, Closes, Performs,
 ghost use Rattle.scenario_sources.specs.Answers.{JoinsAs, TakesAs};
 ghost use Rattle.scenario_sources.specs.Faults.{fault_in, misfit_refusal_of};
 ghost use Rattle.scenario_sources.specs.State.Stops.{GiveStops, GivesTo};
+ghost use Rattle.scenario_sources.specs.declared.phase.Phase.TheVariants.{Sending as SendingPhase, Stopped as StoppedPhase};
+ghost use Rattle.source_machine.specs.State.Sources.{Source};
 
 use crate::performed::Performed;
-use crate::phase::Phase;
+use crate::phase::{Phase, put_phase};
 use crate::terminated::Terminated;
 use bcast_base::{Bis, BisSet};
 use big_info::Group;
@@ -120,16 +122,21 @@ pub(crate) fn stop(phase: &mut Phase) -> Result<Option<u64>, Stop>
     ensures closes { (version : ℕ) (own : List Step) → PhaseIs own phase.old → Closes version own StopStep phase.new result }
     ensures within { IfOk result (λ closed. ForSome closed (λ event. event < 2 ^ 39)) }
 {
+    let Phase::Sending(started) = &*phase else {
+        return Err(Stop::Refused(Refusal::Order));
+    };
+    let closed = started.last_event();
+    stop_sending(phase);
+    Ok(closed)
+}
+
+/// Stops a source that is between its start and its end, and no other.
+fn stop_sending(phase: &mut Phase)
+    ensures { (started : Source) → phase.old ≡ SendingPhase started → phase.new ≡ StoppedPhase started }
+{
     match replace(phase, Phase::Absent) {
-        Phase::Sending(started) => {
-            let closed = started.last_event();
-            *phase = Phase::Stopped(started);
-            Ok(closed)
-        }
-        other => {
-            *phase = other;
-            Err(Stop::Refused(Refusal::Order))
-        }
+        Phase::Sending(started) => put_phase(phase, Phase::Stopped(started)),
+        other => put_phase(phase, other),
     }
 }
 
@@ -138,18 +145,13 @@ pub(crate) fn terminate(phase: &mut Phase, reason: u8) -> Result<Terminated, Sto
     ensures ends { (version : ℕ) (own : List Step) → PhaseIs own phase.old → Terminates version own reason phase.new result }
     ensures within { IfOk result (λ terminated. ForSome terminated.closed (λ event. event < 2 ^ 39)) }
 {
-    match replace(phase, Phase::Absent) {
-        Phase::Sending(started) => {
-            let closed = started.last_event();
-            let pdu = started.terminate_pdu(reason);
-            *phase = Phase::Stopped(started);
-            Ok(Terminated { closed, pdu })
-        }
-        other => {
-            *phase = other;
-            Err(Stop::Refused(Refusal::Order))
-        }
-    }
+    let Phase::Sending(started) = &*phase else {
+        return Err(Stop::Refused(Refusal::Order));
+    };
+    let closed = started.last_event();
+    let pdu = started.terminate_pdu(reason);
+    stop_sending(phase);
+    Ok(Terminated { closed, pdu })
 }
 
 /// Whether a source is between its start and its end.

@@ -17,7 +17,7 @@ ghost use Rattle.scenario_sources.specs.declared.phase.Phase.TheVariants.{Descri
 
 use crate::basing::{draft_stop, has_subgroup, is_last_bare};
 use crate::identity::identity_or;
-use crate::phase::{Described, Phase};
+use crate::phase::{Described, Phase, put_phase};
 use announcement_train::plain_base;
 use base_grammar::{Base, BaseDraft, DraftFault};
 use bcast_base::Memory;
@@ -131,7 +131,7 @@ pub(crate) fn begin(
         unreachable!()
     };
     match begin_with(alloc, described, ready.plain, limits, first) {
-        Ok(started) => *phase = Phase::Sending(started),
+        Ok(started) => put_phase(phase, Phase::Sending(started)),
         Err(stop) => return Err(stop),
     }
     Ok(())

@@ -22,8 +22,12 @@ impl<'a> Cursor<'a> {
         let Some(rest) = self.rest else {
             return None;
         };
-        let (word, left) = pairs_in_front(rest, N)?;
-        let octets = array_of(word)?;
+        let Some((word, left)) = pairs_in_front(rest, N) else {
+            return None;
+        };
+        let Some(octets) = array_of(word) else {
+            return None;
+        };
         self.rest = left;
         self.read += 1;
         Some(octets)

@@ -26,7 +26,9 @@ impl<'a> Cursor<'a> {
         let Some(rest) = self.rest else {
             return None;
         };
-        let (n, left) = short_number(rest, most)?;
+        let Some((n, left)) = short_number(rest, most) else {
+            return None;
+        };
         if n < least {
             return None;
         }

@@ -6,6 +6,7 @@ ghost use Rattle.big_info.specs.Widths.{FitsWidths};
 ghost use Rattle.c_values.specs.Infos.{big_info};
 ghost use Rattle.c_values.specs.Statuses.{group, layout, memory, ok, range};
 ghost use Rattle.source_machine.specs.Ciphers.{MayBeSent};
+ghost use Rattle.source_machine.specs.State.Sources.{Source};
 ghost use Rattle.source_c.specs.Sources.{Holds, Stands, source_c, stale_in};
 ghost use Rattle.source_c.specs.Starts.{IsBadBase, IsBadGroup, StartFails, Starts};
 
@@ -64,19 +65,24 @@ fn started(
     }
 }
 
-/// The handle of a source that sends.
-fn made(alloc: Global, source: SourceStreaming) -> Result<VmSource, u32>
-    ensures kept { IfOk result (λ handle. Holds source handle.kept) }
-    ensures err { IfErr result (λ status. status ≡ memory) }
+/// The handle of a source that sends, by what C said of it.
+fn made(alloc: Global, setup: Setup, first_event: u64, ahead: bool) -> Result<VmSource, StartFault>
+    requires widths { FitsWidths setup.info }
+    requires least { 3000 ≤ setup.origin }
+    requires greatest { setup.origin ≤ 2 ^ 48 }
+    requires first { first_event < 2 ^ 39 }
+    ensures kept { IfOk result (λ handle. (source : Source) × Starts setup ahead first_event source × Holds source handle.kept) }
+    ensures sent { OnOk result (MayBeSent 31 setup.info) }
+    ensures group { IfErr result (λ fault. StartFails setup.info fault) }
 {
     let machine = SourceMachine {
-        source,
+        source: started(alloc, setup, first_event, ahead)?,
         stale: StaleList::new(alloc),
         told: 0,
     };
     match Box::new(alloc, machine) {
         Ok(whole) => Ok(VmSource::of(Loose::of(whole))),
-        Err(_) => Err(MEMORY),
+        Err(_) => Err(StartFault::Memory),
     }
 }
 
@@ -131,23 +137,19 @@ pub extern "C" fn vm_source_new(
         base,
         origin,
     };
-    let started = match started(alloc, setup, first_event, times_ahead) {
-        Ok(started) => started,
+    match made(alloc, setup, first_event, times_ahead) {
+        Ok(made) => {
+            *source = made;
+            OK
+        }
         Err(StartFault::BadGroup(row)) => {
             *fault = AirFault {
                 place: 0,
                 number: row.number(),
             };
-            return GROUP;
+            GROUP
         }
-        Err(StartFault::Memory) => return MEMORY,
-    };
-    match made(alloc, started) {
-        Ok(made) => {
-            *source = made;
-            OK
-        }
-        Err(status) => status,
+        Err(StartFault::Memory) => MEMORY,
     }
 }
 

@@ -1,5 +1,6 @@
 -- The streams of a source as events are laid.
-use Rattle.source_machine.proofs.Prelude.{ℕ, ◌≡◌, ◌<◌, ◌≤◌, ◌+◌, ◌-◌, ◌*◌, ◌^◌, List, ◌∷◌, length, get_or, arith, ◌∙◌, sym, subst, cases_eq, cases_lt, eq-eqb, ne_eqb, mul-le, AllZip-get_or, length_all_zip, All, AllZip, horizon_of, iso_us_of, lays, Setup, Call, event, events, framed_calls, framed_lays, laid_before, laid_with, lay_anchor, next_of, stream_calls, IsChecked, Source, Stream, StreamStands, StreamsAre, info_in, kept_of, Grows, IsLaid, IsReady, IsSource, Lays, LaysNext, Laying}
+use Rattle.std.proofs.lemmas.List.Elements.{All-set}
+use Rattle.source_machine.proofs.Prelude.{ℕ, ◌≡◌, ◌<◌, ◌≤◌, ◌+◌, ◌-◌, ◌*◌, ◌^◌, List, ◌∷◌, length, length-set, get_or, set, arith, ◌∙◌, sym, subst, cases_eq, cases_lt, eq-eqb, ne_eqb, mul-le, AllZip-get_or, length_all_zip, All, AllZip, horizon_of, iso_us_of, lays, Setup, Call, event, events, framed_calls, framed_lays, laid_before, laid_with, lay_anchor, next_of, stream_calls, IsChecked, Source, Stream, StreamStands, StreamsAre, info_in, kept_of, Grows, IsLaid, IsReady, IsSource, Lays, LaysNext, Laying}
 
 stream_grown : (setup : Setup) (next : ℕ) (old new : Stream) → IsReady setup next old → Grows old new → IsReady setup next new
 stream_grown setup next old new ready grows = grind arith
@@ -64,6 +65,13 @@ source_grown source new is grows = record {
   streams = sym (length_all_zip Grows source.streams new grows) ∙ is.streams;
   ready = ready_grown source.setup source.next source.streams new is.ready grows;
 }
+
+pub source_given : (source : Source) (k : ℕ) (old new : Stream) → IsSource source → k < length source.streams → old ≡ get_or source.streams k old
+    → Grows old new → IsSource (record source { streams = set source.streams k new })
+source_given source k old new is within at grows =
+    let P = IsReady source.setup source.next in
+    let all = All-set P source.streams k new (stream_grown source.setup source.next old new (subst P (sym at) (is.ready k old within)) grows) is.ready in
+    record { origin = is.origin; delay = is.delay; first = is.first; last = is.last; streams = length-set source.streams k new ∙ is.streams; ready = all }
 
 pub source_next : (source : Source) (laying : Laying) (new : List Stream) → IsSource source → source.next < 2 ^ 39 → LaysNext source laying
     → AllZip (Lays laying.anchor laying.iso_us laying.count) source.streams new

@@ -1,5 +1,5 @@
 use Rattle.explain_command.proofs.Prelude.{told_at}
-use Rattle.explain_command.proofs.Telling.{keeps_then}
+use Rattle.explained_rows.proofs.Citable.{keeps_then}
 use Rattle.explain_command.proofs.document.refuse.Goals as goal
 
 pub returns : goal.returns

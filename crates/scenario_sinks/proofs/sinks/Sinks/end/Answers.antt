@@ -6,7 +6,7 @@ use Rattle.scenario_sinks.proofs.sinks.Sinks.end.Goals as goal
 pub returns-clause-answer : goal.returns-clause-answer
 returns-clause-answer g c past stands =
     ended c.args.sink c.from-2.result past c.args.self.now _ c.in-Some.entry stands c.from-2.ensures (omega arith) (sym c.args.self.now.entries.ok.0 ∙ c.args.self.now.eight)
-    (rw c.in-Some.is at c.index.ensures ∙ ap (λ i. get_or c.args.self.now.entries.items i (Some c.in-Some.entry)) (c.from.ensures ∙ sym c.from-2.ensures)) refl refl refl
+    (rw c.in-Some.is at c.index.ensures ∙ ap (λ i. get_or c.args.self.now.entries.items i (Some c.in-Some.entry)) (c.from.ensures ∙ sym c.from-2.ensures)) c.put_entry.ensures.entries refl refl
 
 pub returns-clause-text : goal.returns-clause-text
 returns-clause-text g c past stands =

@@ -18,4 +18,4 @@ pub returns : goal.returns
 returns c past stands =
     made c.args.boxes c.args.sink c.from-place.result (record { setup = record { streams = c.args.streams; slots = c.args.slots; horizon = c.args.horizon }; mtu = c.args.mtu })
     past c.args.self.now _ c.index.result.now _ stands c.from-place.ensures (omega arith)
-    (sym c.args.self.now.entries.ok.0 ∙ c.args.self.now.eight) c.index.ensures (sym c.is_some.ensures ∙ c.if-is_some.false) c.if-self-boxes.false refl c.in-Ok.ensures refl refl refl
+    (sym c.args.self.now.entries.ok.0 ∙ c.args.self.now.eight) c.index.ensures (sym c.is_some.ensures ∙ c.if-is_some.false) c.if-self-boxes.false refl c.in-Ok.ensures c.put_entry.ensures.entries refl refl

@@ -1,8 +1,0 @@
-use Rattle.explain_command.proofs.Prelude.{◌≡◌, drop, lines_told, told}
-use Rattle.explain_command.proofs.place.Place.is_beside.Given as goal
-
-abbrev pub invariant-loop-octet : goal.invariant-loop-octet
-invariant-loop-octet l = record {
-  silent : told l.fn.self l.octets ≡ told l.place (drop l.octet-index l.octets);
-  no_line : lines_told l.fn.self l.octets ≡ lines_told l.place (drop l.octet-index l.octets);
-}
