@@ -81,7 +81,7 @@ fn refuse<W: ByteSink + Drop>(
 }
 
 /// Writes the line of the refusal of a document.
-#[tactic(auto, using(crate::proofs::Telling::prefix_none, crate::proofs::Telling::keeps_itself))]
+#[tactic(auto, using(explained_rows::proofs::Citable::prefix_none, explained_rows::proofs::Citable::keeps_itself))]
 fn write_refusal<W: ByteSink + Drop>(
     alloc: Global,
     cause: Cause,
@@ -104,7 +104,7 @@ fn write_refusal<W: ByteSink + Drop>(
 }
 
 /// Tells the notes of the refusal of a document, where its line was written.
-#[tactic(auto, using(crate::proofs::Telling::keeps_itself))]
+#[tactic(auto, using(explained_rows::proofs::Citable::keeps_itself))]
 fn tell_refusal<W: ByteSink + Drop>(
     alloc: Global,
     ran: Result<Ending, Cause>,
