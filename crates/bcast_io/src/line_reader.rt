@@ -37,7 +37,7 @@ pub enum LineRead {
 }
 
 /// Where the last line stands.
-#[derive(Clone, Copy, Debug, PartialEq, Eq)]
+#[derive(Clone, Copy)]
 pub(crate) enum Place {
     /// There is none.
     Nowhere,

@@ -12,7 +12,7 @@ use bcast_base::{Memory, Octets};
 const PIECE: usize = 8192;
 
 /// What a read gave.
-#[derive(Clone, Copy, Debug, PartialEq, Eq)]
+#[derive(Clone, Copy)]
 pub(crate) enum Piece {
     /// Octets of the document.
     Taken,

@@ -19,7 +19,7 @@ use unit_outlets::{Outlet, Tally};
 const BOXES: usize = 8;
 
 /// What the source gives.
-#[derive(Clone, Copy, Debug, PartialEq, Eq)]
+#[derive(Clone, Copy)]
 pub enum Form {
     /// The lines of a scenario.
     Lines,

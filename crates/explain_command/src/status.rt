@@ -4,7 +4,7 @@ ghost use Rattle.explain_command.specs.Statuses.{ending_number, ending_text, exi
 use replay_lines::{Cause, Ending};
 
 /// How the program ended.
-#[derive(Clone, Copy, Debug, PartialEq, Eq)]
+#[derive(Clone, Copy)]
 pub enum Status {
     /// There are other words behind its name than `--toml`.
     Usage,

@@ -1,5 +1,5 @@
 /// What is kept of a payload number, in the place of Max_PDU octets that it has in the block.
-#[derive(Clone, Copy, Debug, PartialEq, Eq)]
+#[derive(Clone, Copy)]
 pub(crate) enum Cell {
     /// Nothing.
     Empty,

@@ -4,8 +4,6 @@
 mod program;
 mod replay;
 mod status;
-#[cfg(test)]
-mod tests;
 
 use bcast_base::Memory;
 use bcast_io::{ReadSource, WriteSink};

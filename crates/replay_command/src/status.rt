@@ -7,7 +7,7 @@ use replay_migration::Migration;
 use transcript_text::Refusal;
 
 /// How a call of `replay` ended.
-#[derive(Clone, Copy, Debug, PartialEq, Eq)]
+#[derive(Clone, Copy)]
 pub enum Status {
     /// The text was read to its end, and its transcript was written.
     Done,

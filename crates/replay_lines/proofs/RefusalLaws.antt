@@ -20,7 +20,7 @@ other_no_sink : (sink : ℕ) (steps : List Step) → OtherThan (no_sink sink ste
 other_no_sink sink steps = other_if (not (is_some (box_of sink steps))) NoSuchSink (λ e. cc)
 
 other_named : (world : World) (earlier : List Step) (step : Step) → OtherThan (refusal_of_sink world earlier step)
-other_named world earlier step = grind (arith, other_or, other_if)
+other_named world earlier this = grind (arith, other_or, other_if)
 
 -- ---- all reasons
 

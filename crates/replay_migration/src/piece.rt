@@ -11,7 +11,7 @@ use bcast_io::{ByteSource, Failed, TEXT_LIMIT};
 use memchr::memchr_iter;
 
 /// What a read gave.
-#[derive(Clone, Copy, Debug, PartialEq, Eq)]
+#[derive(Clone, Copy)]
 pub(crate) enum Piece {
     /// Octets of the text.
     Taken,
@@ -22,7 +22,7 @@ pub(crate) enum Piece {
 }
 
 /// Why a read gave nothing.
-#[derive(Clone, Copy, Debug, PartialEq, Eq)]
+#[derive(Clone, Copy)]
 pub(crate) enum Unread {
     /// The source failed.
     Failed,

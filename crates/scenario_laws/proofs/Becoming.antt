@@ -39,13 +39,13 @@ Becomes airs n step earlier = Keeps airs n step earlier ⊎ (Parts airs n step e
 
 kept : (airs : Airs) (n : ℕ) (step : Step) (earlier : List Step) → is_tuned n earlier step ≡ false → is_made n earlier step ≡ false
     → source_of n (step ∷ earlier) ≡ source_of n earlier → place (sink_calls airs n (step ∷ earlier)) ≡ place (sink_calls airs n earlier) → Becomes airs n step earlier
-kept airs n step earlier begins_not made_not same_source same_place = grind (arith, same_place)
+kept airs n this earlier begins_not made_not same_source same_place = grind (arith, same_place)
 
 gone : (airs : Airs) (n : ℕ) (step : Step) (earlier : List Step) → Silent airs n step earlier → place (sink_calls airs n (step ∷ earlier)) ≡ None → Becomes airs n step earlier
-gone airs n step earlier silent nowhere = inr (inl (record { silent = silent; nowhere = nowhere }))
+gone airs n this earlier silent nowhere = inr (inl (record { silent = silent; nowhere = nowhere }))
 
 stayed : (airs : Airs) (n : ℕ) (step : Step) (earlier : List Step) → Silent airs n step earlier → is_made n earlier step ≡ false → StaysBy airs n step earlier → Becomes airs n step earlier
-stayed airs n step earlier silent made_not stays = grind (arith, kept, gone)
+stayed airs n this earlier silent made_not stays = grind (arith, kept, gone)
 
 pub becomes : (airs : Airs) (n : ℕ) (step : Step) (earlier : List Step) → is_given n step ≡ false → Becomes airs n step earlier
 becomes airs n (Step.Sink sink streams slots mtu) earlier ungiven = elim (cases_Bool (sink == n)) [
@@ -87,7 +87,7 @@ becomes airs n (Step.Announce sink) earlier ungiven = elim (announced airs n sin
     }))
   ]
 ]
-becomes airs n step earlier ungiven = search (kept, same_place, air_place, tick_if_place, stayed, given_stays, plain_stays)
+becomes airs n this earlier ungiven = search (kept, same_place, air_place, tick_if_place, stayed, given_stays, plain_stays)
 
 -- the group's first event is the source's next one
 pub puts_first : Announcing → (airs : Airs) (boxes n : ℕ) (step : Step) (earlier : List Step) → Legal airs boxes earlier → Permitted airs boxes earlier step

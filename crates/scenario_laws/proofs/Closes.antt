@@ -96,7 +96,7 @@ its_prefix airs s n made = prefix (mine_in s n made) (sink_calls airs n made) (n
 stays_move : (airs : Airs) (s n : ℕ) (step : Step) (earlier : List Step) (next' : ℕ) → StaysBy airs n step earlier → next_in (steps_of_source s earlier) ≤ next'
     → its_prefix airs s n earlier ≤ next_in (steps_of_source s earlier)
     → Moves (mine_in s n earlier) (sink_calls airs n earlier) (next_in (steps_of_source s earlier)) [] (mine_in s n (step ∷ earlier)) (sink_calls airs n (step ∷ earlier)) next'
-stays_move airs s n step earlier next' stays more within = grind (arith, sink_calls, next_in, steps_of_source, is_of)
+stays_move airs s n this earlier next' stays more within = grind (arith, sink_calls, next_in, steps_of_source, is_of)
 
 announced_moves : Announcing → (airs : Airs) (boxes s n sink : ℕ) (earlier : List Step) (next' : ℕ) → Legal airs boxes earlier → Permitted airs boxes earlier (Step.Announce sink)
     → next_in (steps_of_source s earlier) ≤ next' → its_prefix airs s n earlier ≤ next_in (steps_of_source s earlier)
@@ -141,7 +141,7 @@ moves_by laws airs boxes s n Step.End earlier next' legal permits ungiven least 
     (open_before (steps_of_source s earlier)) more within
     (λ mine. end_ticks s (λ t. open_event (steps_of_source t earlier)) (sink_calls airs n earlier) (source_of n earlier) least (is_its s (source_of n earlier) mine))
 moves_by laws airs boxes s n (Step.Announce sink) earlier next' legal permits ungiven least more within = announced_moves laws airs boxes s n sink earlier next' legal permits more within
-moves_by laws airs boxes s n step earlier next' legal permits ungiven least more within =
+moves_by laws airs boxes s n this earlier next' legal permits ungiven least more within =
     search (gone_moves, more_moves, event_moves airs s n earlier next' more within, stays_move, given_stays, plain_stays)
 
 -- ---- all events that a sink closed
@@ -154,11 +154,11 @@ pub moved : Announcing → (airs : Airs) (boxes s n : ℕ) (step : Step) (earlie
     → its_prefix airs s n earlier ≤ next_in (steps_of_source s earlier)
     → Moves (mine_in s n earlier) (sink_calls airs n earlier) (next_in (steps_of_source s earlier)) (closed_by airs s n earlier step)
     (mine_in s n (step ∷ earlier)) (sink_calls airs n (step ∷ earlier)) (next_in (steps_of_source s (step ∷ earlier)))
-moved laws airs boxes s n step earlier legal ungiven least within = search (moves_by, next_in, permitted, next_rises)
+moved laws airs boxes s n this earlier legal ungiven least within = search (moves_by, next_in, permitted, next_rises)
 
 -- a sink that was just made
 pub made_nothing : (airs : Airs) (n : ℕ) (step : Step) (earlier : List Step) → is_made n earlier step ≡ true → sink_calls airs n (step ∷ earlier) ≡ []
-made_nothing airs n step earlier made = grind (arith, false≢true)
+made_nothing airs n this earlier made = grind (arith, false≢true)
 
 closing_on : Announcing → (airs : Airs) (boxes s n : ℕ) (step : Step) (earlier : List Step) → Legal airs boxes (step ∷ earlier) → is_given n step ≡ false → s ≤ 1 → is_made n earlier step ≡ false
     → Closing airs s n earlier → Closing airs s n (step ∷ earlier)

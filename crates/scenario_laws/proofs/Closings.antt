@@ -17,12 +17,12 @@ unmade n (_ ∷ earlier) none = unmade n earlier none
 
 housed_after : (airs : Airs) (boxes n : ℕ) (step : Step) (earlier : List Step) (calls : List Call) → Permitted airs boxes earlier step → (box_of n earlier ≡ None → place calls ≡ None)
     → box_after n step earlier (box_of n earlier) ≡ None → place (with_sink_call airs n step earlier calls) ≡ None
-housed_after airs boxes n step earlier calls permits before none =
+housed_after airs boxes n this earlier calls permits before none =
     grind (arith, same_place, air_place, tick_if_place, unmade, none-some, is_none, eqb-true)
 
 housed : (airs : Airs) (boxes n : ℕ) (made : List Step) → Legal airs boxes made → box_of n made ≡ None → place (sink_calls airs n made) ≡ None
 housed airs boxes n [] legal none = refl
-housed airs boxes n (step ∷ earlier) legal none = search (housed_after, permitted, housed airs boxes n earlier legal.0)
+housed airs boxes n (this ∷ earlier) legal none = search (housed_after, permitted, housed airs boxes n earlier legal.0)
 
 -- ---- of what is handed up as an event is closed, what is of one sink and one source
 
@@ -94,4 +94,4 @@ step_shown airs boxes s n Step.End earlier legal least within =
       closing_shown airs boxes s 1 n earlier legal within,
       both_shown s (shown_with airs s n earlier) least,
     )
-step_shown airs boxes s n step earlier legal least within = search (closing_shown airs boxes s (chosen_of earlier) n earlier legal within)
+step_shown airs boxes s n this earlier legal least within = search (closing_shown airs boxes s (chosen_of earlier) n earlier legal within)

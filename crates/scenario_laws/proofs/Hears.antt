@@ -90,7 +90,7 @@ sent_by airs laid tuning bis s n sink earlier calls there mine ready = grind (ar
 stays_own : (airs : Airs) (laid : ℕ → Content) (tuning : BigSync) (n bis : ℕ) (step : Step) (earlier : List Step) (injected : Bool)
     → cond (is_tuned n earlier step) (is_injected n step) (is_injected n step || injected) ≡ false → StaysBy airs n step earlier
     → (injected ≡ false → AllOwn laid tuning bis (sink_calls airs n earlier)) → AllOwn laid tuning bis (sink_calls airs n (step ∷ earlier))
-stays_own airs laid tuning n bis step earlier injected clean stays before = grind (arith, laid, rest_not)
+stays_own airs laid tuning n bis this earlier injected clean stays before = grind (arith, laid, rest_not)
 
 own_after : (airs : Airs) (laid : ℕ → Content) (tuning : BigSync) (boxes s n bis : ℕ) (step : Step) (earlier : List Step) (injected : Bool)
     → Permitted airs boxes earlier step → 1 ≤ bis → source_of n earlier ≡ Some s → cond (is_tuned n earlier step) (is_injected n step) (is_injected n step || injected) ≡ false
@@ -132,7 +132,7 @@ own_after airs laid tuning boxes s n bis Step.End earlier injected permits least
     (tick_if_own laid tuning bis (is_of 0 (source_of n earlier)) (open_event (steps_of_source 0 earlier)) (sink_calls airs n earlier) (ready clean).all)
 own_after airs laid tuning boxes s n bis (Step.Announce sink) earlier injected permits least there clean ready = grind (arith, announced, stays_own, laid, rest_not, is_tuned)
 own_after airs laid tuning boxes s n bis (Step.Train sink time ext adv acad) earlier injected permits least there clean ready = grind (arith, stays_own, laid, given_stays, last_not, is_tuned)
-own_after airs laid tuning boxes s n bis step earlier injected permits least there clean ready =
+own_after airs laid tuning boxes s n bis this earlier injected permits least there clean ready =
     search (gone_own, tick_if_own, (ready clean).all, stays_own, plain_stays)
 
 -- what the source sends, so far and later, is its own, by what it lays at each number in all

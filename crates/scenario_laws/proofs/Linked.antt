@@ -22,7 +22,7 @@ ranged_lines ranged (line ∷ earlier) = search (ranged_said, in_range, ranged_l
 few_by : (n : ℕ) (step : Step) (earlier : List Step) (before : Option Settings) → IsInRange step
     → ((made : Settings) → before ≡ Some made → made.setup.slots < 256)
     → (made : Settings) → made_by n step earlier before ≡ Some made → made.setup.slots < 256
-few_by n step earlier before ranged few = grind (arith, none-some)
+few_by n this earlier before ranged few = grind (arith, none-some)
 
 pub few_slots : (n : ℕ) (steps : List Step) → Ranged steps → (made : Settings) → made_of n steps ≡ Some made → made.setup.slots < 256
 few_slots n [] ranged = λ made is. absurd (none-some made is)
@@ -41,7 +41,7 @@ octets_called : (world : World) (n : ℕ) (step : Step) (earlier : List Step) (m
     → AreOctets calls → AreOctets (calls_after world n step earlier made calls)
 octets_called world n (Step.Sink sink streams slots mtu) earlier made calls ranged before = octets_if (sink == n) (born mtu) calls
     (grind arith) before
-octets_called world n step earlier made calls ranged before = grind (arith, octets_if, repeats, cons_octets, append-nil)
+octets_called world n this earlier made calls ranged before = grind (arith, octets_if, repeats, cons_octets, append-nil)
 
 pub history_octets : (world : World) (n : ℕ) (steps : List Step) → Ranged steps → AreOctets (history_of world n steps)
 history_octets world n [] ranged = tt

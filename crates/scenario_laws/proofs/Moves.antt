@@ -44,14 +44,14 @@ StaysBy airs n step earlier =
 pub plain_stays : (airs : Airs) (n : ℕ) (step : Step) (earlier : List Step) → train_by (source_at earlier) step ≡ None
     → moved n (named_by step) step earlier (sink_calls airs n earlier) ≡ with_sink_call airs n step earlier (sink_calls airs n earlier)
     → source_after n step earlier (source_of n earlier) ≡ source_of n earlier → is_tuned n earlier step ≡ false → StaysBy airs n step earlier
-plain_stays airs n step earlier none is same begins_not = grind (arith, sink_calls, named_by)
+plain_stays airs n this earlier none is same begins_not = grind (arith, sink_calls, named_by)
 
 pub same_if : {A : Type 0} (hit : Bool) (x : A) → cond hit x x ≡ x
 same_if hit x = grind arith
 
 -- whether a step makes the sink is the same whatever came before
 pub made_alike : (n : ℕ) (one other : List Step) (step : Step) → is_made n one step ≡ is_made n other step
-made_alike n one other step = cc
+made_alike n one other this = cc
 
 pub given_is_injected : (n : ℕ) (step : Step) → is_injected n step ≡ false → is_given n step ≡ false
 given_is_injected n _ clean = grind arith

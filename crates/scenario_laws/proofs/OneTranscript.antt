@@ -51,7 +51,7 @@ relayed_units_alike false airs others both boxes made legal runs = record { step
 
 before_step : (airs others : Airs) → Both airs others → (boxes : ℕ) (made : List Step) (step : Step) → Legal airs boxes made
     → refusal_of airs boxes made step ≡ None → RelayedUnitsAlike airs others (closes_first made step) made
-before_step airs others both boxes made step legal none = search (relayed_units_alike, runs_at)
+before_step airs others both boxes made this legal none = search (relayed_units_alike, runs_at)
 
 pub answers_same : (airs others : Airs) → Both airs others → (boxes : ℕ) (made : List Step) (step : Step) → Legal airs boxes made
     → refusal_of airs boxes made step ≡ None → answered_by airs made step ≡ answered_by others made step
@@ -150,7 +150,7 @@ brought_same airs others told starts history line accepted none = grind (arith, 
 pub answered_same : (airs others : Airs) → Told airs others → (starts : List Account) (history : List TextLine) (step : Step) → Accepted (rules_of airs starts) history
     → line_refusal airs (length starts) (steps_of airs history) step ≡ None
     → answered_by airs (steps_of airs history) step ≡ answered_by others (steps_of others history) step
-answered_same airs others told starts history step accepted none =
+answered_same airs others told starts history this accepted none =
     grind (arith, answers_same, length, steps_of, legal, line_passes, answered_by, steps_same)
 
 out_by : (airs others : Airs) (starts : List Account) (history : List TextLine) (reason : Option Refusal) (octets octets' : List ℕ) → (reason ≡ None → octets ≡ octets')

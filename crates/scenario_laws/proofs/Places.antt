@@ -64,7 +64,7 @@ moved_off false source this made here there later calls is comes before = subst 
 plain_off : (n : ℕ) (named : Option ℕ) (step : Step) (earlier : List Step) (calls : List Call) → train_by (source_at earlier) step ≡ None
     → calls_at the_world n named step earlier (made_of n earlier) (calls_made n earlier) ≡ calls_made n (step ∷ earlier) → Nowhere (made_of n earlier) (calls_made n earlier) calls
     → Nowhere (made_of n earlier) (calls_made n (step ∷ earlier)) (moved n named step earlier calls)
-plain_off n named step earlier calls none is before = grind (arith, moved_off, none-some)
+plain_off n named this earlier calls none is before = grind (arith, moved_off, none-some)
 
 -- ---- step by step
 
@@ -91,7 +91,7 @@ off_after airs n (Step.Train sink time ext adv acad) earlier calls before =
     moved_off (sink == n) (source_at earlier) (Step.Train sink time ext adv acad) (made_of n earlier) (calls_made n earlier)
     (stepped (train_heard (given_train (source_at earlier) time ext adv acad)) ∷ calls_made n earlier) _ calls refl
     (λ m big_sync made_is brought. train_comes m (given_train (source_at earlier) time ext adv acad) (calls_made n earlier) big_sync brought) before
-off_after airs n step earlier calls before = search (gone_off, hear_off, air_place, tick_if_place, plain_off)
+off_after airs n this earlier calls before = search (gone_off, hear_off, air_place, tick_if_place, plain_off)
 
 pub nowhere : (airs : Airs) (n : ℕ) (made : List Step) → Nowhere (made_of n made) (calls_made n made) (sink_calls airs n made)
 nowhere airs n [] = λ m is off. absurd (none-some m is)

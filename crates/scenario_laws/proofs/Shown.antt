@@ -108,7 +108,7 @@ zip_if setup bis its closed units all = grind arith
 pub step_zip : Below → (airs : Airs) (s n bis : ℕ) (setup : Setup) (step : Step) (earlier : List Step)
     → (is_of s (source_of n earlier) ≡ true → (tuning : BigSync) → place (sink_calls airs n earlier) ≡ Some tuning → TunedTo setup tuning) → setup.info.framing ≡ 0 → 1 ≤ bis → bis ≤ 31
     → AllZip (IsOfSlot setup bis) (slots_closed setup bis (closed_by airs s n earlier step)) (of_stream bis (shown_by airs s n earlier step))
-step_zip below airs s n bis setup step earlier on plain least within = grind (arith, zip_if, with_zip)
+step_zip below airs s n bis setup this earlier on plain least within = grind (arith, zip_if, with_zip)
 
 pub shown_on : (s n bis : ℕ) (xs ys : List SinkUnit) → of_stream bis (of_sink s n (xs ++ ys)) ≡ of_stream bis (of_sink s n xs) ++ of_stream bis (of_sink s n ys)
 shown_on s n bis xs ys = grind (arith, of_stream, handed_append, filter-append, eqb, bis_of, of_sink)

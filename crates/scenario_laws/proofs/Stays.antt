@@ -71,11 +71,11 @@ there_before airs s n step earlier tuning ungiven is = elim (becomes airs n step
 
 pub on_before : (airs : Airs) (s n : ℕ) (step : Step) (earlier : List Step) (tuning : BigSync) → IsOn airs s n (step ∷ earlier) tuning
     → IsOn airs s n earlier tuning ⊎ BeginsBy airs s n step earlier tuning
-on_before airs s n step earlier tuning is = grind (arith, there_before, last_not, is_tuned, is_given, any_since, rest_not)
+on_before airs s n this earlier tuning is = grind (arith, there_before, last_not, is_tuned, is_given, any_since, rest_not)
 
 pub begins_calls : (airs : Airs) (s n : ℕ) (step : Step) (earlier : List Step) (tuning : BigSync) → BeginsBy airs s n step earlier tuning
     → sink_calls airs n (step ∷ earlier) ≡ tune tuning ∷ sink_calls airs n earlier
-begins_calls airs s n step earlier tuning begins = begins.puts.calls_is ∙ ap (λ on. tune on ∷ sink_calls airs n earlier) begins.on_is
+begins_calls airs s n this earlier tuning begins = begins.puts.calls_is ∙ ap (λ on. tune on ∷ sink_calls airs n earlier) begins.on_is
 
 -- what is not so since a sink was made is not so since the stay began
 pub not_in_stay : (is_one : Step → Bool) (airs : Airs) (s n : ℕ) (made : List Step) (tuning : BigSync) → IsThere s tuning (sink_calls airs n made) (source_of n made)

@@ -78,11 +78,11 @@ shown_none : (mine : Bool) (calls : List Call) (last_open : Option ℕ) → stay
 shown_none mine calls last_open nowhere = grind arith
 
 none_closed : (airs : Airs) (s n : ℕ) (step : Step) (earlier : List Step) → here_at airs s n earlier ≡ None → closed_by airs s n earlier step ≡ []
-none_closed airs s n step earlier nowhere = grind (arith, closed_none, mine_in, cond_none)
+none_closed airs s n this earlier nowhere = grind (arith, closed_none, mine_in, cond_none)
 
 pub none_shown : (airs : Airs) (boxes s n bis : ℕ) (step : Step) (earlier : List Step) → Legal airs boxes earlier → s ≤ 1 → n ≤ 7 → here_at airs s n earlier ≡ None
     → shown s n bis (handed_by airs earlier step) ≡ []
-none_shown airs boxes s n bis step earlier legal least within nowhere = grind (arith, of_stream, step_shown, shown_none, mine_in, cond_none)
+none_shown airs boxes s n bis this earlier legal least within nowhere = grind (arith, of_stream, step_shown, shown_none, mine_in, cond_none)
 
 -- ---- what holds of all stays
 

@@ -44,7 +44,7 @@ in_order test reason rest others same = grind arith
 
 pub refusal_same : (airs others : Airs) → Both airs others → (boxes : ℕ) (earlier : List Step) (step : Step) → Twice airs others boxes earlier
     → refusal_of airs boxes earlier step ≡ refusal_of others boxes earlier step
-refusal_same airs others both boxes earlier step twice = grind (arith, in_order, chosen_same, takes, or_parts)
+refusal_same airs others both boxes earlier this twice = grind (arith, in_order, chosen_same, takes, or_parts)
 
 pub legal_too : (airs others : Airs) → Both airs others → (boxes : ℕ) (made : List Step) → Legal airs boxes made → Legal others boxes made
 legal_too airs others both boxes [] legal = tt
@@ -61,11 +61,11 @@ air_same airs others own lose (suc i) calls same = grind (arith, position_at (se
 
 step_same : (airs others : Airs) → Both airs others → (boxes n : ℕ) (step : Step) (earlier : List Step) (calls : List Call) → Twice airs others boxes earlier
     → refusal_of airs boxes earlier step ≡ None → with_sink_call airs n step earlier calls ≡ with_sink_call others n step earlier calls
-step_same airs others both boxes n step earlier calls twice none = grind (arith, pdu_same, chosen_same, hears, permitted, air_same)
+step_same airs others both boxes n this earlier calls twice none = grind (arith, pdu_same, chosen_same, hears, permitted, air_same)
 
 pub sink_same : (airs others : Airs) → Both airs others → (boxes n : ℕ) (made : List Step) → Legal airs boxes made → sink_calls airs n made ≡ sink_calls others n made
 sink_same airs others both boxes n [] legal = refl
-sink_same airs others both boxes n (step ∷ earlier) legal =
+sink_same airs others both boxes n (this ∷ earlier) legal =
     search (step_same, legal_too, sink_same airs others both boxes n earlier legal.0)
 
 -- ---- what is handed up
@@ -81,7 +81,7 @@ pub closing_both_same : (airs others : Airs) → Both airs others → (boxes : �
 closing_both_same airs others both boxes made legal = grind (arith, closing_same)
 
 pub handed_same : (airs others : Airs) → Both airs others → (boxes : ℕ) (made : List Step) (step : Step) → Legal airs boxes made → handed_by airs made step ≡ handed_by others made step
-handed_same airs others both boxes made step legal = grind (arith, closing_same, closing_both_same)
+handed_same airs others both boxes made this legal = grind (arith, closing_same, closing_both_same)
 
 pub handed_up_same : (airs others : Airs) → Both airs others → (boxes : ℕ) (made : List Step) → Legal airs boxes made → handed_up airs made ≡ handed_up others made
 handed_up_same airs others both boxes [] legal = refl

@@ -35,7 +35,7 @@ ShortIn bis own = Short (setup_of own).info.max_sdu (source_stream (setup_of own
 
 short_of : (airs : Airs) (bis : ℕ) (own : List Step) → Lawful airs own → ShortIn bis own
 short_of airs bis [] legal = tt
-short_of airs bis (step ∷ own) legal =
+short_of airs bis (this ∷ own) legal =
     grind (arith, maps_none, length, ltb-false, second_false, ltb, short_if, short_lays, (settled airs own legal.0), (short_of airs bis own legal.0))
 
 pub slot_short : (airs : Airs) (bis : ℕ) (own : List Step) → Lawful airs own → (event slot : ℕ) (unit : List ℕ)
@@ -115,7 +115,7 @@ still_since airs boxes s n step earlier tuning legal least within never is since
 -- a step by which the receivers stay
 stays_since : (airs : Airs) (boxes s n : ℕ) (step : Step) (earlier : List Step) (tuning : BigSync) → StaysBy airs n step earlier → handed_by airs earlier step ≡ []
     → IsOn airs s n (step ∷ earlier) tuning → (IsOn airs s n earlier tuning → Since airs s n earlier) → Since airs s n (step ∷ earlier)
-stays_since airs boxes s n step earlier tuning stays none is since =
+stays_since airs boxes s n this earlier tuning stays none is since =
     grind (arith, sink_calls, none-some, rest_not, is_tuned, is_given, any_since, of_sink, cond, handed_since, handed_by, append-nil, since)
 
 since_after : (airs : Airs) (boxes s n : ℕ) (step : Step) (earlier : List Step) (tuning : BigSync) → Legal airs boxes earlier → s ≤ 1 → n ≤ 7 → IsOn airs s n (step ∷ earlier) tuning

@@ -102,7 +102,7 @@ settled airs [] legal = grind (arith, false≢true)
 settled airs (step ∷ own) legal = settled_after airs own step (settled airs own legal.0) legal.1
 
 pub setup_stays : (airs : Airs) (own : List Step) (step : Step) → Settled own → Allowed airs own step → is_started own ≡ true → setup_of (step ∷ own) ≡ setup_of own
-setup_stays airs own step is allows started = grind (arith, true_not_false, not_yet, begins)
+setup_stays airs own this is allows started = grind (arith, true_not_false, not_yet, begins)
 
 -- the group of a source that was started
 abbrev pub group_in : (own : List Step) → Settled own → is_started own ≡ true → Group
@@ -126,7 +126,7 @@ no_end fault none = grind (arith, none-some)
 
 pub are_accepted : (airs : Airs) (own : List Step) → Lawful airs own → AreAccepted airs (setup_of own) (source_calls own)
 are_accepted airs [] legal = tt
-are_accepted airs (step ∷ own) legal =
+are_accepted airs (this ∷ own) legal =
     grind (arith, not_yet, maps_none, no_end, begins, (settled airs own legal.0), (are_accepted airs own legal.0))
 
 -- ---- the steps of a source so far, as a part of all its steps: what fixes it is the same, and its calls are the first of all
@@ -191,9 +191,9 @@ abbrev pub next_in : List Step → ℕ
 next_in own = next_of (setup_of own) (source_calls own)
 
 next_if : (airs : Airs) (own : List Step) (step : Step) (is_its : Bool) → Lawful airs own → (is_its ≡ true → Allowed airs own step) → next_in own ≤ next_in (cond is_its (step ∷ own) own)
-next_if airs own step is_its legal allows = grind (arith, not_yet, settled)
+next_if airs own this is_its legal allows = grind (arith, not_yet, settled)
 
 -- it never falls
 pub next_rises : (airs : Airs) (boxes s : ℕ) (earlier : List Step) (step : Step) → Legal airs boxes (step ∷ earlier)
     → next_in (steps_of_source s earlier) ≤ next_in (steps_of_source s (step ∷ earlier))
-next_rises airs boxes s earlier step legal = grind (arith, next_if, steps_of_source, is_of_source, lawful, its_step, permitted)
+next_rises airs boxes s earlier this legal = grind (arith, next_if, steps_of_source, is_of_source, lawful, its_step, permitted)

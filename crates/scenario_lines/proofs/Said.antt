@@ -22,7 +22,7 @@ row_says version row values unspaced_first known h =
 
 says_parts : (parts : Parts) (step : Step) → made_of parts ≡ step → is_unspaced (row_at parts).first ≡ true → row_of 2 (row_at parts).first ≡ Some (row_at parts)
     → PlacedFits (placed_in parts) → LineIs 2 step (placed_line (placed_in parts))
-says_parts (in_row row values) step made unspaced_first known h =
+says_parts (in_row row values) this made unspaced_first known h =
     subst (λ (s : Step). LineIs 2 s (joined row.first (all_words row.places values))) made (row_says 2 row values unspaced_first known h)
 
 pub its_line : (step : Step) → Fits step → LineIs 2 step (line_of step)

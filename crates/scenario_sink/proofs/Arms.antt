@@ -32,4 +32,4 @@ operated source (Remove sink id) octets history text new result is quiet =
 operated source (Code sink id code) octets history text new result is quiet =
     let P : List ℕ → Type 0 = λ written. Quietly None (Unit {0}) history (stayed (asked 0 written ∷ history.calls_made) history) new result in
     does_so source (Code sink id code) (Code sink id code) history text new result refl refl (subst P is quiet)
-operated source step octets history text new result is quiet = grind arith
+operated source this octets history text new result is quiet = grind arith

@@ -166,4 +166,4 @@ pub entry_ran : (box : Option ℕ) (made : Option Settings) (own : Option ℕ) (
     (step : Step) (sink new : Sink)
     (text told : List ℕ) (r : Result (Unit {0}) Stop) → (is : SinkIs box made own calls_made received sink) → new.outlet ≡ sink.outlet
     → LineMakes source step (histories_of is.how own calls_made received) text told new.living r → EntryRuns box made own calls_made received source step (Some new) text told r
-entry_ran box made own calls_made received source step sink new text told r is outlet makes = grind (arith, line_ran)
+entry_ran box made own calls_made received source this sink new text told r is outlet makes = grind (arith, line_ran)

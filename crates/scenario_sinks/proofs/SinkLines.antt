@@ -10,14 +10,14 @@ use Rattle.scenario_sinks.proofs.OneSink.{one_changed, same_stays}
 -- ---- the sinks
 
 line_stays : (n : ℕ) (source : Source) (step : Step) (past : Histories) → OthersStay n past (with_line n source step past)
-line_stays n source step past = grind (arith, train_by)
+line_stays n source this past = grind (arith, train_by)
 
 line_here : (n : ℕ) (source : Source) (step : Step) (past : Histories) (entry : Option (Option Sink))
     → EntryIs (past.boxes n) (past.mades n) (source_by source step (past.mades n) (past.lives n) (past.sources n))
     (calls_by source step (past.mades n) (past.lives n))
     (received_by source step (past.mades n) (past.lives n) (calls_by source step (past.mades n) (past.lives n)) (past.received n)) entry
     → EntryAt (with_line n source step past) n entry
-line_here n source step past entry is = grind (arith, with_line, calls_by, eq-eqb, received_by, source_by, follows_by, train_by)
+line_here n source this past entry is = grind (arith, with_line, calls_by, eq-eqb, received_by, source_by, follows_by, train_by)
 
 pub ran : (n at : ℕ) (source : Source) (step : Step) (past : Histories) (old new : Sinks) (entry : Option Sink) (text told : List ℕ) (r : Result (Unit {0}) Stop)
     → SinksStand past old → at ≡ n → n < most_sinks → length old.entries.items ≡ most_sinks

@@ -68,7 +68,7 @@ not_two (a ∷ b ∷ c ∷ others) not = refl
 pub means : (octets : List ℕ) (members : Members) → IsUtf8 octets × (parse_document octets ≡ Some members)
     → meaning_of octets ≡ meaning_in_keys members
 unfolding meaning_of
-means octets members parsed = rw (is_utf8-from_IsUtf8 octets parsed.0, parsed.1) refl
+means octets given parsed = rw (is_utf8-from_IsUtf8 octets parsed.0, parsed.1) refl
 
 -- what octets mean that are none
 pub means_nothing : (octets : List ℕ) → (IsUtf8 octets → parse_document octets ≡ None) → meaning_of octets ≡ no_toml

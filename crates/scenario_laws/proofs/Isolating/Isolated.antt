@@ -13,7 +13,7 @@ by_tests common line chosen other its is rest = grind (arith, false≢true)
 -- a step that is neither of the whole scenario nor a source line names a sink
 names_one : (n : ℕ) (step : Step) → is_sink n (sink_in step) ≡ false → is_source_line step ≡ false
     → (is_common step || chooses step) ≡ false → is_other n (sink_in step) ≡ true
-names_one n step not line common = grind (arith, false≢true)
+names_one n this not line common = grind (arith, false≢true)
 
 fate : (s n : ℕ) (step : Step) (made : List Step) → is_kept s n made step ≡ false
     → (is_other n (sink_in step) ≡ true) ⊎ ((is_source_line step ≡ true) × (chosen_of made ≢ s))
@@ -27,10 +27,10 @@ fate s n step made is =
 -- ---- what a step is that is kept
 
 means : (s n : ℕ) (step : Step) (made : List Step) → is_kept s n made step ≡ true → Means s made step
-means s n step made is line = grind (arith, eqb-true, false≢true, and_parts)
+means s n this made is line = grind (arith, eqb-true, false≢true, and_parts)
 
 names : (s n : ℕ) (step : Step) (made : List Step) → is_kept s n made step ≡ true → is_other n (sink_in step) ≡ false
-names s n step made is = grind (arith, not, not-true, and_parts, false≢true)
+names s n this made is = grind (arith, not, not-true, and_parts, false≢true)
 
 -- ---- the induction
 
@@ -47,14 +47,14 @@ same_if airs s n step made false is puts_not same = elim (fate s n step made is)
 
 same_of : (airs : Airs) (s n : ℕ) (made : List Step) → NoOtherPuts s n made → Same airs s n made (only s n made)
 same_of airs s n [] puts_not = search arith
-same_of airs s n (step ∷ made) puts_not = search (same_if, same_of airs s n made puts_not.0)
+same_of airs s n (this ∷ made) puts_not = search (same_if, same_of airs s n made puts_not.0)
 
 -- ---- what the kept steps print
 
 lines_if : (airs : Airs) (s n : ℕ) (step : Step) (made : List Step) (hit : Bool) → is_kept s n made step ≡ hit
     → Same airs s n made (only s n made) → kept_lines airs s n made ≡ lines_of airs n (only s n made)
     → cond hit (kept_lines airs s n made ++ lines_by airs n made step) (kept_lines airs s n made) ≡ lines_of airs n (cond hit (step ∷ only s n made) (only s n made))
-lines_if airs s n step made hit is same before = grind (arith, append_same, lines_same, names, means)
+lines_if airs s n this made hit is same before = grind (arith, append_same, lines_same, names, means)
 
 lines_kept : (airs : Airs) (s n : ℕ) (made : List Step) → NoOtherPuts s n made → kept_lines airs s n made ≡ lines_of airs n (only s n made)
 lines_kept airs s n [] puts_not = refl

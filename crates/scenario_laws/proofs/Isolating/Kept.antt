@@ -14,30 +14,30 @@ sourced airs s n this made others means same is = source_alike airs s n made oth
 
 made_grows : (airs : Airs) (s n : ℕ) (step : Step) (made others : List Step) → Same airs s n made others
     → made_of n (step ∷ made) ≡ made_of n (step ∷ others)
-made_grows airs s n step made others same = grind (arith, cond_same, horizon_alike)
+made_grows airs s n this made others same = grind (arith, cond_same, horizon_alike)
 
 -- ---- its source
 
 source_grows : (airs : Airs) (s n : ℕ) (step : Step) (made others : List Step) → Means s made step → Same airs s n made others
     → source_of n (step ∷ made) ≡ source_of n (step ∷ others)
-source_grows airs s n step made others means same = grind (arith, cond_same, chosen_alike, sourced_same, source_alike)
+source_grows airs s n this made others means same = grind (arith, cond_same, chosen_alike, sourced_same, source_alike)
 
 apart_grows : (airs : Airs) (s n : ℕ) (step : Step) (made others : List Step) → Means s made step → Same airs s n made others
     → (t : ℕ) → t ≢ s → is_of t (source_of n (step ∷ made)) ≡ false
-apart_grows airs s n step made others means same t other = grind (arith, ne_eqb)
+apart_grows airs s n this made others means same t other = grind (arith, ne_eqb)
 
 -- ---- what its receivers took
 
 calls_grow : (airs : Airs) (s n : ℕ) (step : Step) (made others : List Step) → Means s made step → Same airs s n made others
     → HistoriesAlike (made_of n (step ∷ made)) (calls_made n (step ∷ made)) (calls_made n (step ∷ others))
     → sink_calls airs n (step ∷ made) ≡ sink_calls airs n (step ∷ others)
-calls_grow airs s n step made others means same later = grind arith
+calls_grow airs s n this made others means same later = grind arith
 
 -- ---- its units
 
 boxed_grows : (airs : Airs) (s n : ℕ) (step : Step) (made others : List Step) → Same airs s n made others
     → is_some (box_of n (step ∷ made)) ≡ is_some (box_of n (step ∷ others))
-boxed_grows airs s n step made others same = grind arith
+boxed_grows airs s n this made others same = grind arith
 
 pub chosen_closing : (airs : Airs) (s n : ℕ) (made others : List Step) → Same airs s n made others
     → units_by n (closing airs (chosen_of made) made) ≡ units_by n (closing airs (chosen_of others) others)
@@ -45,17 +45,17 @@ chosen_closing airs s n made others same = cc (chosen_alike airs s n made others
 
 handed_same : (airs : Airs) (s n : ℕ) (step : Step) (made others : List Step) → Same airs s n made others
     → units_by n (handed_by airs made step) ≡ units_by n (handed_by airs others step)
-handed_same airs s n step made others same = grind (arith, chosen_closing, both_alike)
+handed_same airs s n this made others same = grind (arith, chosen_closing, both_alike)
 
 units_grow : (airs : Airs) (s n : ℕ) (step : Step) (made others : List Step) → Same airs s n made others
     → units_by n (handed_up airs (step ∷ made)) ≡ units_by n (handed_up airs (step ∷ others))
-units_grow airs s n step made others same = grind (arith, units_append, handed_up, handed_by, handed_same)
+units_grow airs s n this made others same = grind (arith, units_append, handed_up, handed_by, handed_same)
 
 -- ---- all of it
 
 pub kept : (airs : Airs) (s n : ℕ) (step : Step) (made others : List Step) → Means s made step → Same airs s n made others
     → Same airs s n (step ∷ made) (step ∷ others)
-kept airs s n step made others means same =
+kept airs s n this made others means same =
     search (
       made_of,
       calls_made,

@@ -20,7 +20,7 @@ lives_itself made a = grind (arith, alike_itself)
 
 pub left_out : (airs : Airs) (s n : ℕ) (step : Step) (made others : List Step) → Leaves airs s n step made → Same airs s n made others
     → Same airs s n (step ∷ made) others
-left_out airs s n step made others leaves same = grind (arith, units_append, append-nil, left_took)
+left_out airs s n this made others leaves same = grind (arith, units_append, append-nil, left_took)
 
 -- ---- another sink is named
 
@@ -32,10 +32,10 @@ pub record Quiet (step : Step) : Type 0 where
 
 -- a step that names a sink says nothing of a source
 quiet : (n : ℕ) (step : Step) → is_other n (sink_in step) ≡ true → Quiet step
-quiet n step other = grind (arith, false≢true)
+quiet n this other = grind (arith, false≢true)
 
 pub another_sink : (airs : Airs) (s n : ℕ) (step : Step) (made : List Step) → is_other n (sink_in step) ≡ true → Leaves airs s n step made
-another_sink airs s n step made other =
+another_sink airs s n this made other =
     grind (arith, quiet, said_stays, false≢true)
 
 -- ---- a line that means another source, and puts the sink on no train and no group, changes nothing of the sink and of the source
@@ -88,5 +88,5 @@ calls_stay airs n _ made is not apart =
 
 pub elsewhere : (airs : Airs) (s n : ℕ) (step : Step) (made : List Step) → is_source_line step ≡ true → chosen_of made ≢ s
     → puts n made step ≡ false → is_of (chosen_of made) (source_of n made) ≡ false → Leaves airs s n step made
-elsewhere airs s n step made is other not apart =
+elsewhere airs s n this made is other not apart =
     grind (arith, and_right, ne_eqb, history_stays, not, cond-false, calls_stay, false≢true, closing_none)

@@ -68,7 +68,7 @@ said_if is_its this own own' same = grind arith
 pub said_grows : (s : ℕ) (step : Step) (made others : List Step) → chosen_of made ≡ chosen_of others
     → said_of (steps_of_source s made) ≡ said_of (steps_of_source s others)
     → said_of (steps_of_source s (step ∷ made)) ≡ said_of (steps_of_source s (step ∷ others))
-said_grows s step made others chosen same = grind (arith, said_if, is_of_source, steps_of_source)
+said_grows s this made others chosen same = grind (arith, said_if, is_of_source, steps_of_source)
 
 stays_if : (is_its : Bool) (step : Step) (own : List Step) → said_after step (said_of own) ≡ said_of own
     → said_of (cond is_its (step ∷ own) own) ≡ said_of own

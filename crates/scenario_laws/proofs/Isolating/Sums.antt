@@ -70,7 +70,7 @@ fits_closing airs made b n t its = fits_at airs made b n t (open_event (steps_of
 
 fits_step : (airs : Airs) (made : List Step) (b n : ℕ) (step : Step) → box_of n made ≡ Some b → FitsBox b n (handed_by airs made step)
 fits_step airs made b n Step.End its = search (fits_append, fits_closing)
-fits_step airs made b n step its = search (fits_closing)
+fits_step airs made b n this its = search (fits_closing)
 
 pub step_octets : (airs : Airs) (made : List Step) (b n : ℕ) (step : Step) → box_of n made ≡ Some b
     → valid_for b (handed_by airs made step) ≡ octets_in (units_by n (handed_by airs made step))
@@ -96,7 +96,7 @@ none_one made b t event m calls true (Some box) later is =
 none_one made b t event m calls hit box later is = search (sinks_made, box_was_made, none_units, handed_at, ne_eqb)
 
 none_step : (airs : Airs) (made : List Step) (b : ℕ) (step : Step) → sinks_made made ≤ b → valid_for b (handed_by airs made step) ≡ []
-none_step airs made b step later = grind (arith, valid_append, none_flat, none_one)
+none_step airs made b this later = grind (arith, valid_append, none_flat, none_one)
 
 more_made : (step : Step) (count : ℕ) → count ≤ sinks_made_by step count
 more_made _ count = grind arith
@@ -143,4 +143,4 @@ left_took airs n step made others took none stays box other its its' =
 
 pub kept_took : (airs : Airs) (n : ℕ) (step : Step) (made others : List Step) → TookAlike airs n made others
     → units_by n (handed_by airs made step) ≡ units_by n (handed_by airs others step) → TookAlike airs n (step ∷ made) (step ∷ others)
-kept_took airs n step made others took same box other its its' = grind (arith, valid_append, none_yet, stays_took, none-some)
+kept_took airs n this made others took same box other its its' = grind (arith, valid_append, none_yet, stays_took, none-some)

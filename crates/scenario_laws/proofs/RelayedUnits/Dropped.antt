@@ -26,7 +26,7 @@ by_line airs boxes earlier step none mine =
 
 in_phase : (airs : Airs) (boxes : ℕ) (earlier : List Step) (step : Step) → refusal_of airs boxes earlier step ≡ None
     → is_of_source 1 earlier step ≡ true → is_out_of_phase (steps_of_source 1 earlier) step ≡ false
-in_phase airs boxes earlier step none mine = grind (arith, false≢true, by_line)
+in_phase airs boxes earlier this none mine = grind (arith, false≢true, by_line)
 
 settled_now : (airs : Airs) (boxes : ℕ) (earlier : List Step) (sink bis to : ℕ)
     → refusal_of airs boxes earlier (Step.Relay sink bis to) ≡ None → Settled (steps_of_source 1 earlier) to
@@ -83,5 +83,5 @@ named_if : (closes : Bool) (airs : Airs) (boxes : ℕ) (made : List Step) → Ar
 named_if closes airs boxes made legal second runs = grind (arith, offers_named, offers_stand)
 
 pub dropped_law_holds : (boxes : ℕ) → DroppedLaw boxes
-dropped_law_holds boxes airs said step legal second =
+dropped_law_holds boxes airs said this legal second =
     grind (arith, happened, named_if, closes_first, happens_legally, version_at, stage_happened, runs_at, line_passes)

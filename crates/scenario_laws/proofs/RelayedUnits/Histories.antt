@@ -24,7 +24,7 @@ closes_if false airs made is = refl
 pub hands_alike : (airs : Airs) (made : List Step) (step : Step) → handed_by airs (with_relayed_units airs made step) step ≡ handed_by airs made step
 hands_alike airs made Step.End =
     let left = left_by_relayed_units airs made Step.End in ap₂ (λ first second. first ++ second) left.closing_first left.closing_second
-hands_alike airs made step = search (closes_if (chosen_of made == 0) airs made (eqb-true (chosen_of made) 0))
+hands_alike airs made this = search (closes_if (chosen_of made == 0) airs made (eqb-true (chosen_of made) 0))
 
 -- all that is handed up: by the steps of lines alone
 pub handed_happened : (airs : Airs) (earlier : List Step) (step : Step)
@@ -110,7 +110,7 @@ chosen_happened airs (step ∷ earlier) =
 
 told_if : (mine : Bool) (step : Step) (own others : List Step) → told_of own ≡ told_of others
     → told_of (cond mine (step ∷ own) own) ≡ told_of (cond mine (step ∷ others) others)
-told_if mine step own others same = grind arith
+told_if mine this own others same = grind arith
 
 told_happened : (s : ℕ) (airs : Airs) (said : List Step) → told_of (steps_of_source s (happened airs said)) ≡ told_of (steps_of_source s said)
 told_happened s airs [] = refl
@@ -139,7 +139,7 @@ horizon_next this before others same = grind arith
 
 horizon_happened : (airs : Airs) (said : List Step) → horizon_of (happened airs said) ≡ horizon_of said
 horizon_happened airs [] = refl
-horizon_happened airs (step ∷ earlier) = search (horizon_next, offers_horizon, horizon_happened airs earlier)
+horizon_happened airs (this ∷ earlier) = search (horizon_next, offers_horizon, horizon_happened airs earlier)
 
 made_next : (n : ℕ) (step : Step) (before others : List Step) (made : Option Settings) → horizon_of before ≡ horizon_of others
     → made_by n step before made ≡ made_by n step others made

@@ -59,7 +59,7 @@ taken bis own = accepted (framed_calls (setup_of own) bis (source_calls own))
 -- ---- a step of the source that gives it no unit of the stream
 
 own_takes : (bis : ℕ) (step : Step) (own : List Step) → gives_on bis step ≡ false → taken bis (step ∷ own) ≡ taken bis own
-own_takes bis step own not = grind (arith, event_accepts_none, units_same)
+own_takes bis this own not = grind (arith, event_accepts_none, units_same)
 
 -- a stream of a source that was given no unit of it accepted none
 pub none_taken : (bis : ℕ) (own : List Step) → list_any (gives_on bis) own ≡ false → taken bis own ≡ []
@@ -75,7 +75,7 @@ gives_to bis earlier step = (chosen_of earlier == 1) && gives_on bis step
 
 pub step_takes : (bis : ℕ) (step : Step) (earlier : List Step) → gives_to bis earlier step ≡ false
     → accepted_on bis (step ∷ earlier) ≡ accepted_on bis earlier
-step_takes bis step earlier not = grind (arith, own_takes, false≢true)
+step_takes bis this earlier not = grind (arith, own_takes, false≢true)
 
 -- ---- units that are offered
 

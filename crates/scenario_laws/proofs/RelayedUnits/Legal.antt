@@ -12,7 +12,7 @@ pub record Runs (made : List Step) : Type 0 where
 
 runs_by : (airs : Airs) (boxes : ℕ) (made : List Step) (step : Step) → is_misplaced (stage_of made) step ≡ is_unbegun made
     → refusal_of airs boxes made step ≡ None → Runs made
-runs_by airs boxes made step same none = grind (arith, permitted)
+runs_by airs boxes made this same none = grind (arith, permitted)
 
 pub runs_at : (airs : Airs) (boxes : ℕ) (made : List Step) (step : Step) → refusal_of airs boxes made step ≡ None
     → closes_first made step ≡ true → Runs made
@@ -28,12 +28,12 @@ most_of own = (setup_of own).info.max_sdu
 
 bounded_if : (mine : Bool) (step : Step) (own : List Step) → IsInRange step → most_of own ≤ 4095
     → most_of (cond mine (step ∷ own) own) ≤ 4095
-bounded_if mine step own ranged before = grind arith
+bounded_if mine this own ranged before = grind arith
 
 -- a unit of source 1 has at most 4,095 octets
 bounded : (airs : Airs) (boxes : ℕ) (made : List Step) → AreLegal airs boxes made → most_of (steps_of_source 1 made) ≤ 4095
 bounded airs boxes [] legal = omega arith
-bounded airs boxes (step ∷ earlier) legal = search (bounded_if, bounded airs boxes earlier legal.0)
+bounded airs boxes (this ∷ earlier) legal = search (bounded_if, bounded airs boxes earlier legal.0)
 
 chosen_below : (airs : Airs) (boxes : ℕ) (made : List Step) → AreLegal airs boxes made → chosen_of made ≤ 1
 chosen_below airs boxes [] legal = omega arith

@@ -119,7 +119,7 @@ offers_if false airs n bis to made below stands = grind arith
 
 offered_now : (airs : Airs) (n bis to : ℕ) (made : List Step) (step : Step) → n ≤ 7 → OneStands n bis to made
     → map (λ (a : Answered). a.offer.unit) (offered_to to (answered_by airs made step)) ≡ cond (is_route bis to (relay_of n made)) (handed_on airs n bis made step) []
-offered_now airs n bis to made step below stands = search (answered_units, offers_if, first_handed)
+offered_now airs n bis to made this below stands = search (answered_units, offers_if, first_handed)
 
 no_way : (n bis to : ℕ) (made : List Step) (relay : Option Route) → relay_of n made ≡ relay → had_relay to made ≡ false
     → is_route bis to relay ≡ false

@@ -162,7 +162,7 @@ get_prefix xs ys k octets is = search (none-some)
 
 own_extends : (mine : Bool) (bis : ℕ) (step : Step) (own : List Step)
     → Extends (given bis (source_calls own)) (given bis (source_calls (cond mine (step ∷ own) own)))
-own_extends mine bis step own = grind (arith, get_prefix)
+own_extends mine bis this own = grind (arith, get_prefix)
 
 numbered_more : (one other : List (List ℕ)) (units : List AudioUnit) → Extends one other → Numbered one units → Numbered other units
 numbered_more one other units extends numbered = search arith
@@ -176,7 +176,7 @@ given_if begins one other rest others now before none = grind (arith, or_parts)
 -- no train was given to it by its octets
 pub ungiven : (n : ℕ) (made : List Step) → injected_since (is_made n) n made ≡ false → given_since_made n made ≡ false
 ungiven n [] none = refl
-ungiven n (step ∷ earlier) none = search (given_if, given_is_injected, ungiven n earlier)
+ungiven n (this ∷ earlier) none = search (given_if, given_is_injected, ungiven n earlier)
 
 -- relayed units inject nothing
 injected_unless : (n : ℕ) (reason : Option Refusal) (offer : Offer) (made : List Step)
@@ -223,12 +223,12 @@ close_injects n said after_relays this is = grind (arith, false≢true)
 
 framing_if : (mine : Bool) (step : Step) (own : List Step) → IsInRange step → (setup_of own).info.framing ≤ 1
     → (setup_of (cond mine (step ∷ own) own)).info.framing ≤ 1
-framing_if mine step own ranged before = grind arith
+framing_if mine this own ranged before = grind arith
 
 framing_fits : (airs : Airs) (boxes : ℕ) (made : List Step) → AreLegal airs boxes made
     → (setup_of (steps_of_source 0 made)).info.framing ≤ 1
 framing_fits airs boxes [] legal = omega arith
-framing_fits airs boxes (step ∷ earlier) legal = search (framing_if, framing_fits airs boxes earlier legal.0)
+framing_fits airs boxes (this ∷ earlier) legal = search (framing_if, framing_fits airs boxes earlier legal.0)
 
 at_most_one : (k : ℕ) → k ≤ 1 → (k ≡ 0) ⊎ (k ≡ 1)
 at_most_one k below = grind arith

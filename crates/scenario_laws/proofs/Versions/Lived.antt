@@ -28,7 +28,7 @@ wider_if b one two made other is wider = grind arith
 wider_after : (n : ℕ) (step : Step) (earlier : List Step) (made other : Option Settings) → AreWider made other
     → AreWider (made_by n step earlier made) (made_by n (second step) (seconds earlier) other)
 wider_after n (Step.Sink sink streams slots mtu) earlier made other wider = grind (arith, wider_if, seconds, sink_grows)
-wider_after n step earlier made other wider = search (wider_if)
+wider_after n this earlier made other wider = search (wider_if)
 
 pub made_wider : (n : ℕ) (made : List Step) → AreWider (made_of n made) (made_of n (seconds made))
 made_wider n [] = tt

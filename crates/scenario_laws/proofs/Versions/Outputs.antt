@@ -19,7 +19,7 @@ closing_chosen : (made : List Step) → AreCalm made → closing airs_of (chosen
 closing_chosen made calm = cc (chosen_same made, closing_same (chosen_of made) made calm)
 
 handed_same : (made : List Step) (step : Step) → AreCalm made → handed_by airs_of (seconds made) step ≡ handed_by airs_of made step
-handed_same made step calm = grind (arith, closing_same, closing_chosen)
+handed_same made this calm = grind (arith, closing_same, closing_chosen)
 
 pub handed_up_same : (made : List Step) → AreCalm made → handed_up airs_of (seconds made) ≡ handed_up airs_of made
 handed_up_same [] calm = refl

@@ -132,7 +132,7 @@ pub printed_same : (wider : ℕ) (source : Source) (step : Step) (made : Setting
     → printed_of source step (made_with_horizon wider made) calls ≡ printed_of source step made calls
 printed_same wider source (Step.Control sink octets) made calls is near = λ i.
     sink_line sink (control_words (controls.control_heard (its_snapshot wider made calls is i).place octets)) ∷ []
-printed_same wider source step made calls is near =
+printed_same wider source this made calls is near =
     search (served_same, told_line_same, read_line_same, drains_same, shows_same, hears_same, views_same)
 
 -- ---- why a step is refused
@@ -145,7 +145,7 @@ read_same link wider made calls is i = refuse_if (is_none (slice_get (its_reads 
 
 waits_same : (step : Step) → Same (λ made calls. nothing_waits made calls step)
 waits_same (Step.Tell sink) = notice_same 0
-waits_same step = search (notice_same, read_same)
+waits_same this = search (notice_same, read_same)
 
 room_same : (step : Step) → Same (λ made calls. no_record_room made calls step)
 room_same (Step.Pac sink codec caps metadata) = λ wider made calls is i.

@@ -41,7 +41,7 @@ received_same source this (Some made) (Some other) before after calls wider quie
     (near made refl)) ∙ ap₂ (λ one two. with_step (big_sync_of made (snapshot_in made before) (train_by source this)) one two calls)
     (its_snapshot wider.horizon made before (is_quiet made other before wider quiet))
     (its_snapshot wider.horizon made after (is_quiet made other after wider later))
-received_same source step made other before after calls wider quiet later near = search
+received_same source this made other before after calls wider quiet later near = search
 
 -- ---- the source of a sink
 

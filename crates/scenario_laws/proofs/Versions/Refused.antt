@@ -64,7 +64,7 @@ source_lasts version later own _ is = inl (search same)
 
 box_next : (n : ℕ) (step : Step) (earlier : List Step) (box other : Option ℕ) → other ≡ box
     → box_after n step (seconds earlier) other ≡ box_after n step earlier box
-box_next n step earlier box other stays = grind (arith, same)
+box_next n this earlier box other stays = grind (arith, same)
 
 pub box_same : (n : ℕ) (made : List Step) → box_of n (seconds made) ≡ box_of n made
 box_same n [] = refl

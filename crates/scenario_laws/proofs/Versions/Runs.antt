@@ -97,7 +97,7 @@ passes_said starts history later line stands none = cc (happens starts history l
 -- behind `scenario` no step that isn't refused is `scenario`
 second_same : (made : List Step) (step : Step) → is_misplaced (stage_of made) step ≡ false → is_unbegun_at (stage_of made) ≡ false
     → second step ≡ step
-second_same made step placed begun = grind (arith, false≢true)
+second_same made this placed begun = grind (arith, false≢true)
 
 begun_after : (made : List Step) (step : Step) → is_unbegun_at (stage_of made) ≡ false
     → is_unbegun_at (stage_after step (stage_of made)) ≡ false
@@ -105,7 +105,7 @@ begun_after made _ begun = grind arith
 
 version_after : (made : List Step) (step : Step) → is_misplaced (stage_of made) step ≡ false → is_unbegun_at (stage_of made) ≡ false
     → version_of (step ∷ made) ≡ version_of made
-version_after made step placed begun = grind (arith, false≢true)
+version_after made this placed begun = grind (arith, false≢true)
 
 -- what a line that isn't refused leaves to the lines behind it
 record Goes (made later : List Step) (said : Said) : Type 0 where

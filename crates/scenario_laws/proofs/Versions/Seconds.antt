@@ -14,7 +14,7 @@ seconds (step ∷ earlier) = second step ∷ seconds earlier
 -- what holds of `scenario` and `scenario 2`, and of each other step and itself, holds of each step and the one that stands for it
 pub at_second : (P : Step → Step → Type 0) → ((version : ℕ) → P (Step.Scenario version) (Step.Scenario 2)) → ((step : Step) → P step step)
     → (step : Step) → P step (second step)
-at_second x1 first others step = grind arith
+at_second x1 first others this = grind arith
 
 -- ---- what is gathered step by step
 
@@ -62,7 +62,7 @@ pub chosen_same : (made : List Step) → last_given chosen_given (seconds made) 
 chosen_same = given_same chosen_given (λ version. refl)
 
 its_same : (s : ℕ) (earlier : List Step) (step : Step) → is_of_source s (seconds earlier) (second step) ≡ is_of_source s earlier step
-its_same s earlier step = grind (arith, at_second, is_of_source, is_common, is_source_line, unwrap_or, chosen_same)
+its_same s earlier this = grind (arith, at_second, is_of_source, is_common, is_source_line, unwrap_or, chosen_same)
 
 seconds_if : (is_its : Bool) (step : Step) (own : List Step)
     → cond is_its (second step ∷ seconds own) (seconds own) ≡ seconds (cond is_its (step ∷ own) own)
@@ -120,7 +120,7 @@ unbegun_later _ _ is = search
 
 stands_later : (made : List Step) → StandsLater (stage_of made) (stage_of (seconds made))
 stands_later [] = tt
-stands_later (step ∷ earlier) = grind (arith, version_later, (stands_later earlier))
+stands_later (this ∷ earlier) = grind (arith, version_later, (stands_later earlier))
 
 pub is_later : (made : List Step) → IsLater (version_of made) (version_of (seconds made))
 is_later made = version_later (stage_of made) (stage_of (seconds made)) (stands_later made)

@@ -2,7 +2,7 @@
 
 ghost use Rattle.std.specs.Prelude.{◌≤◌};
 
-use crate::tests::{run_with, words_of};
+use crate::running::{Ended, Kind, run_with};
 use bcast_base::Octets;
 use bcast_io::{ByteSource, EndlessSource, Failed, FaithfulSink};
 use std::alloc::Global;
@@ -33,8 +33,8 @@ fn long_comment(alloc: Global) -> Option<Octets> {
     Some(line)
 }
 
-/// How often a text of such lines, which has no end, is read under these words, so many octets a call, until the run refuses them so.
-fn reads_of(alloc: Global, words: &[&str], piece: usize, refused: &str) -> Option<u64>
+/// How often a text of such lines, which has no end, is read, so many octets a call, until the run refuses them so.
+fn reads_of(alloc: Global, kind: Kind, piece: usize, refused: &str) -> Option<u64>
     requires { 1 ≤ piece }
 {
     let mut line = long_comment(alloc)?;
@@ -45,24 +45,18 @@ fn reads_of(alloc: Global, words: &[&str], piece: usize, refused: &str) -> Optio
     };
     let mut sink = FaithfulSink::new(alloc);
     let mut outlets: Vec<Box<dyn Outlet>> = Vec::new(alloc);
-    let status = run_with(
-        alloc,
-        &words_of(alloc, words)?,
-        &mut source,
-        &mut sink,
-        &mut outlets,
-    );
-    (status.exit_code() == 1 && sink.taken() == refused.as_bytes()).then_some(source.reads)
+    let ended = run_with(alloc, kind, &mut source, &mut sink, &mut outlets);
+    (ended == Ended::Refused && sink.taken() == refused.as_bytes()).then_some(source.reads)
 }
 
 #[test]
 fn a_text_without_end_is_read_up_to_its_limit(rt: HostRuntime) {
     let refused = "line 8193: TextTooLong\n";
-    assert!(rt; reads_of(rt.alloc(), &[], 4_096, refused) == Some(16_385));
-    assert!(rt; reads_of(rt.alloc(), &[], 1, refused) == Some(67_108_865));
+    assert!(rt; reads_of(rt.alloc(), Kind::Lines, 4_096, refused) == Some(16_385));
+    assert!(rt; reads_of(rt.alloc(), Kind::Lines, 1, refused) == Some(67_108_865));
 }
 
 #[test]
 fn a_document_is_read_in_as_few_reads_as_its_source_allows(rt: HostRuntime) {
-    assert!(rt; reads_of(rt.alloc(), &["--toml"], 4_096, "line 0: TextTooLong\n") == Some(257));
+    assert!(rt; reads_of(rt.alloc(), Kind::Document, 4_096, "line 0: TextTooLong\n") == Some(257));
 }

@@ -4,7 +4,7 @@
 
 ghost use Rattle.std.specs.Prelude.{◌-◌, ◌^◌, false, None};
 
-use crate::tests::{run_with, words_of};
+use crate::running::{Ended, Kind, run_with};
 use bcast_io::{ByteSink, ByteSource, Failed, SinkFault};
 use std::alloc::Global;
 use std::process::Abort;
@@ -24,152 +24,143 @@ enum Refused {
     Take(OutletFault),
 }
 
-/// Words and a text, what is refused, the exit status, how many reads are made, and how many units the box has then.
+/// What is run, what is refused, how the run ends, how many reads are made, and how many units the box has then.
 #[derive(Clone, Copy)]
 struct Run {
     name: &'static str,
-    words: &'static [&'static str],
+    kind: Kind,
     text: &'static str,
     refused: Refused,
-    exit_code: u8,
+    ended: Ended,
     reads: u64,
     units: u64,
 }
 
-const RUNS: [Run; 15] = [
+const RUNS: [Run; 14] = [
     Run {
         name: "to its end",
-        words: &[],
+        kind: Kind::Lines,
         text: TEXT,
         refused: Refused::Nothing,
-        exit_code: 0,
+        ended: Ended::Done,
         reads: 141,
         units: 1,
     },
     Run {
         name: "a last line without its end",
-        words: &[],
+        kind: Kind::Lines,
         text: "scenario 1\nend",
         refused: Refused::Nothing,
-        exit_code: 0,
+        ended: Ended::Done,
         reads: 15,
         units: 0,
     },
     Run {
         name: "no octet",
-        words: &[],
+        kind: Kind::Lines,
         text: "",
         refused: Refused::Nothing,
-        exit_code: 1,
+        ended: Ended::Refused,
         reads: 1,
         units: 0,
     },
     Run {
         name: "without `end`",
-        words: &[],
+        kind: Kind::Lines,
         text: "scenario 1\n",
         refused: Refused::Nothing,
-        exit_code: 1,
+        ended: Ended::Refused,
         reads: 12,
         units: 0,
     },
     Run {
         name: "refused at line 2",
-        words: &[],
+        kind: Kind::Lines,
         text: "scenario 1\nscenario 1\nend\n",
         refused: Refused::Nothing,
-        exit_code: 1,
+        ended: Ended::Refused,
         reads: 22,
         units: 0,
     },
     Run {
         name: "refused at the first word",
-        words: &[],
+        kind: Kind::Lines,
         text: "x\nscenario 1\nend\n",
         refused: Refused::Nothing,
-        exit_code: 1,
+        ended: Ended::Refused,
         reads: 2,
         units: 0,
     },
     Run {
         name: "a read fails",
-        words: &[],
+        kind: Kind::Lines,
         text: TEXT,
         refused: Refused::Read(20),
-        exit_code: 3,
+        ended: Ended::ReadFault,
         reads: 20,
         units: 0,
     },
     Run {
         name: "the last read fails",
-        words: &[],
+        kind: Kind::Lines,
         text: TEXT,
         refused: Refused::Read(141),
-        exit_code: 3,
+        ended: Ended::ReadFault,
         reads: 141,
         units: 1,
     },
     Run {
         name: "a write fails",
-        words: &[],
+        kind: Kind::Lines,
         text: TEXT,
         refused: Refused::Write(SinkFault::Failed),
-        exit_code: 4,
+        ended: Ended::WriteFault,
         reads: 136,
         units: 1,
     },
     Run {
         name: "a write wants memory",
-        words: &[],
+        kind: Kind::Lines,
         text: TEXT,
         refused: Refused::Write(SinkFault::Memory),
-        exit_code: 6,
+        ended: Ended::Memory,
         reads: 136,
         units: 1,
     },
     Run {
         name: "a box fails",
-        words: &[],
+        kind: Kind::Lines,
         text: TEXT,
         refused: Refused::Take(OutletFault::Failed),
-        exit_code: 5,
+        ended: Ended::OutletFault,
         reads: 136,
         units: 0,
     },
     Run {
         name: "a box wants memory",
-        words: &[],
+        kind: Kind::Lines,
         text: TEXT,
         refused: Refused::Take(OutletFault::Memory),
-        exit_code: 6,
+        ended: Ended::Memory,
         reads: 136,
         units: 0,
     },
     Run {
         name: "migrated",
-        words: &["--migrate"],
+        kind: Kind::Migration,
         text: TEXT,
         refused: Refused::Nothing,
-        exit_code: 0,
+        ended: Ended::Done,
         reads: 141,
         units: 0,
     },
     Run {
         name: "migrated until a read fails",
-        words: &["--migrate"],
+        kind: Kind::Migration,
         text: TEXT,
         refused: Refused::Read(20),
-        exit_code: 3,
+        ended: Ended::ReadFault,
         reads: 20,
-        units: 0,
-    },
-    Run {
-        name: "words that mean nothing",
-        words: &["x"],
-        text: TEXT,
-        refused: Refused::Nothing,
-        exit_code: 2,
-        reads: 0,
         units: 0,
     },
 ];
@@ -345,13 +336,10 @@ fn has_units(outlets: &Vec<Box<dyn Outlet>>, units: u64) -> bool {
 
 /// Whether a run over these boxes ends as it is to, calls what it is to call, and nothing behind that.
 fn ends_into(alloc: Global, run: &Run, outlets: &mut Vec<Box<dyn Outlet>>) -> bool {
-    let Some(words) = words_of(alloc, run.words) else {
-        return false;
-    };
     let mut source = WatchedSource::new(run.text, run.refused);
     let mut sink = WatchedSink::new(run.refused);
-    let status = run_with(alloc, &words, &mut source, &mut sink, outlets);
-    status.exit_code() == run.exit_code
+    let ended = run_with(alloc, run.kind, &mut source, &mut sink, outlets);
+    ended == run.ended
         && source.reads == run.reads
         && source.misplaced == 0
         && (sink.refuses.is_none() || sink.calls == 1)

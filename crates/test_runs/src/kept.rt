@@ -2,7 +2,7 @@
 
 ghost use Rattle.std.specs.Prelude.{◌-◌, ◌^◌, false};
 
-use crate::tests::{Run, ends_so};
+use crate::running::{Ended, Kind, Run, ends_so};
 use bcast_base::Calls;
 use std::alloc::Global;
 use std::test::*;
@@ -23,21 +23,21 @@ const UNITS: [&[u8]; 5] = [
 /// The second box refuses its first unit behind the third unit of the first box; a line is refused behind the fourth; the last run ends.
 const RUNS: [Run; 3] = [
     Run {
-        words: &[],
+        kind: Kind::Lines,
         text: "scenario 1\ngroup unframed 20000 40000 8 10000 4 4 1 1 1 1 0 0 0 1\nsink 0 1 1\nsink 1 1 1\nstart 0\ntuned 0 1\nunit 1 - aa\nevent\nhear 0 0 1 0\nunit 1 - bbbb\nevent\nhear 0 0 1 0\ntuned 1 1\nunit 1 - cccccc\nevent\nhear 0 0 1 0\nhear 1 0 1 0\nend\n",
-        exit_code: 5,
+        ended: Ended::OutletFault,
         transcript: "unit 0 1 at 60060 valid 1 aa\nunit 0 1 at 70060 valid 2 bbbb\nunit 0 1 at 80060 valid 3 cccccc\n",
     },
     Run {
-        words: &[],
+        kind: Kind::Lines,
         text: "scenario 1\ngroup unframed 20000 40000 8 10000 4 4 1 1 1 1 0 0 0 1\nsink 0 1 1\nstart 0\ntuned 0 1\nunit 1 - dd\nevent\nhear 0 0 1 0\nevent\nx\n",
-        exit_code: 1,
+        ended: Ended::Refused,
         transcript: "unit 0 1 at 60060 valid 1 dd\nline 10: BadLine 0\n",
     },
     Run {
-        words: &[],
+        kind: Kind::Lines,
         text: "scenario 1\ngroup unframed 20000 40000 8 10000 4 4 1 1 1 1 0 0 0 1\nsink 0 1 1\nstart 0\ntuned 0 1\nunit 1 - ee\nevent\nhear 0 0 1 0\nend\n",
-        exit_code: 0,
+        ended: Ended::Done,
         transcript: "unit 0 1 at 60060 valid 1 ee\nsum 0 5 8\n",
     },
 ];

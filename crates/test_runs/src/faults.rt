@@ -1,10 +1,8 @@
 //! Each call of the outside fails in turn, in a whole life of a sink.
 
-use crate::status::Status;
-use crate::tests::{Run, ends_so, run_with};
+use crate::running::{Ended, Kind, Run, ends_so, run_with};
 use bcast_base::{Calls, Octets};
 use bcast_io::{MemorySink, MemorySource};
-use replay_words::Words;
 use std::alloc::Global;
 use unit_outlets::{FailingTally, Outlet, Tally};
 
@@ -19,9 +17,9 @@ const WHOLE_LIFE_TRANSCRIPT: &str =
 /// Sink 0 relays a stream of source 0 to one of source 1 that takes no unit of more than two octets, and sink 1 hears the stream too. The
 /// box of sink 1 refuses its unit; what comes before that is written.
 const DROPPED: Run = Run {
-    words: &[],
+    kind: Kind::Lines,
     text: "scenario 2\ngroup unframed 20000 40000 8 10000 4 4 1 1 1 1 0 0 0 1\nsource 1\ngroup framed 70000 40000 8 10884 2 10 1 2 2 1 0 400 0 1\nident 0 000000000000 1 000000\nstart 0\nsource 0\nstart 0\nsink 0 1 1\nsink 1 1 1\ntuned 0 1\ntuned 1 1\nrelay 0 1 1\nunit 1 - aabbcc\nevent\nair 0 0\nair 1 0\nevent\nevent\nend\n",
-    exit_code: 5,
+    ended: Ended::OutletFault,
     transcript: "unit 0 1 at 60060 valid 3 aabbcc\nrelay 0 1 dropped UnitTooLong\n",
 };
 
@@ -64,45 +62,45 @@ fn second_failing_box(alloc: Global, takes: Calls) -> Option<Vec<Box<dyn Outlet>
     Some(outlets)
 }
 
-/// Whether a status may come with what was written: a prefix of the transcript, and all of it at the end.
-fn may_end(status: Status, written: &[u8]) -> bool {
+/// Whether a run may end so with what was written: a prefix of the transcript, and all of it at the end.
+fn may_end(ended: Ended, written: &[u8]) -> bool {
     let transcript = WHOLE_LIFE_TRANSCRIPT.as_bytes();
-    if status == Status::Done {
+    if ended == Ended::Done {
         written == transcript
     } else {
         transcript.starts_with(written)
     }
 }
 
-/// The status of the whole life where this call fails, by the source and the sink. `None` where something else was written.
-fn status_into(
+/// How the whole life ends where this call fails, by the source and the sink. `None` where something else was written.
+fn end_into(
     alloc: Global,
     failing: Failing,
     call: u64,
     outlets: &mut Vec<Box<dyn Outlet>>,
-) -> Option<Status> {
+) -> Option<Ended> {
     let reads = calls_failing(alloc, failing == Failing::Reads, call)?;
     let writes = calls_failing(alloc, failing == Failing::Writes, call)?;
     let octets = Octets::copy(alloc, WHOLE_LIFE.as_bytes()).ok()?;
     let mut source = MemorySource::new(octets, 64, reads);
     let mut sink = MemorySink::new(alloc, 16, writes);
-    let status = run_with(alloc, &Words::new(alloc), &mut source, &mut sink, outlets);
-    may_end(status, sink.taken()).then_some(status)
+    let ended = run_with(alloc, Kind::Lines, &mut source, &mut sink, outlets);
+    may_end(ended, sink.taken()).then_some(ended)
 }
 
 /// The same, by the box too.
-fn status_of(alloc: Global, failing: Failing, call: u64) -> Option<Status> {
+fn end_of(alloc: Global, failing: Failing, call: u64) -> Option<Ended> {
     let takes = calls_failing(alloc, failing == Failing::Takes, call)?;
     let mut outlets = failing_box(alloc, takes)?;
-    status_into(alloc, failing, call, &mut outlets)
+    end_into(alloc, failing, call, &mut outlets)
 }
 
 /// Whether the run ends so where the first call fails, the second, and so on until one makes no such call.
-fn each_ends_with(alloc: Global, failing: Failing, end: Status) -> bool {
+fn each_ends_with(alloc: Global, failing: Failing, end: Ended) -> bool {
     'calls: for call in 1..MANY {
-        match status_of(alloc, failing, call) {
-            Some(Status::Done) => return call > 1,
-            Some(status) if status == end => continue 'calls,
+        match end_of(alloc, failing, call) {
+            Some(Ended::Done) => return call > 1,
+            Some(ended) if ended == end => continue 'calls,
             _ => return false,
         }
     }
@@ -111,9 +109,9 @@ fn each_ends_with(alloc: Global, failing: Failing, end: Status) -> bool {
 
 #[test]
 fn each_call_that_fails_is_a_fault_of_its_own(rt: HostRuntime) {
-    assert!(rt; each_ends_with(rt.alloc(), Failing::Reads, Status::ReadFault));
-    assert!(rt; each_ends_with(rt.alloc(), Failing::Writes, Status::WriteFault));
-    assert!(rt; each_ends_with(rt.alloc(), Failing::Takes, Status::OutletFault));
+    assert!(rt; each_ends_with(rt.alloc(), Failing::Reads, Ended::ReadFault));
+    assert!(rt; each_ends_with(rt.alloc(), Failing::Writes, Ended::WriteFault));
+    assert!(rt; each_ends_with(rt.alloc(), Failing::Takes, Ended::OutletFault));
 }
 
 /// Whether the unit of sink 1 is refused behind what the relay dropped.

@@ -1,6 +1,6 @@
 //! Fewer boxes than the sinks take.
 
-use crate::tests::{Run, ends_so};
+use crate::running::{Ended, Kind, Run, ends_so};
 use std::alloc::Global;
 use unit_outlets::{Outlet, Tally};
 
@@ -15,27 +15,27 @@ const FEW: [Few; 3] = [
     Few {
         boxes: 0,
         run: Run {
-            words: &[],
+            kind: Kind::Lines,
             text: "scenario 1\nsink 0 1 1\n",
-            exit_code: 1,
+            ended: Ended::Refused,
             transcript: "line 2: NoOutlet\n",
         },
     },
     Few {
         boxes: 1,
         run: Run {
-            words: &[],
+            kind: Kind::Lines,
             text: "scenario 1\ngroup unframed 20000 40000 8 10000 4 4 1 1 1 1 0 0 0 1\nsink 0 1 1\nstart 0\ntuned 0 1\ndrop 0\nsink 0 1 1\nend\n",
-            exit_code: 1,
+            ended: Ended::Refused,
             transcript: "sum 0 0 0\nline 7: NoOutlet\n",
         },
     },
     Few {
         boxes: 1,
         run: Run {
-            words: &["--seed", "1", "--events", "5"],
+            kind: Kind::Generated,
             text: "",
-            exit_code: 1,
+            ended: Ended::Refused,
             transcript: "events 5\nunits 0 lost 0\n",
         },
     },
