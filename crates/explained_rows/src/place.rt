@@ -84,6 +84,7 @@ impl Place {
     pub(crate) fn is_beside(self, octets: &[u8]) -> bool
         ensures silent { IsTrue result → told self octets.now ≡ [] }
         ensures no_line { IsTrue result → lines_told self octets.now ≡ [] }
+        ensures only { told self octets.now ≡ [] → lines_told self octets.now ≡ [] → IsTrue result }
     {
         let mut place = self;
         for octet in octets {

@@ -44,6 +44,8 @@ impl<W: ByteSink + Drop> ExplainedRows<W> {
     pub fn tell(&mut self, rows: &[u8]) -> Result<(), SinkFault>
         ensures kept { Keeps (told_at self.old.place (W.contents self.old.inner)) (told_at self.new.place (W.contents self.new.inner)) }
         ensures lines { Keeps (lines_at self.old.place (W.contents self.old.inner)) (lines_at self.new.place (W.contents self.new.inner)) }
+        ensures whole { told self.old.place rows.now ≡ [] → lines_told self.old.place rows.now ≡ []
+            → OnOk result (Appends (W.contents self.old.inner) (W.contents self.new.inner) rows.now) }
         ensures ok { OnOk result (W.faults self.new.inner ≡ W.faults self.old.inner) }
         ensures cause { IfErr result (SinkCause (W.faults self.old.inner) (W.faults self.new.inner)) }
     {
@@ -62,6 +64,7 @@ impl<W: ByteSink + Drop> ExplainedRows<W> {
         ensures lines { MatchResult result
             (λ _. Appends (lines_at self.old.place (W.contents self.old.inner)) (lines_at self.new.place (W.contents self.new.inner)) (drop beside rows.now))
             (λ _. AppendsPrefix (lines_at self.old.place (W.contents self.old.inner)) (lines_at self.new.place (W.contents self.new.inner)) (drop beside rows.now)) }
+        ensures whole { OnOk result (Appends (W.contents self.old.inner) (W.contents self.new.inner) rows.now) }
         ensures ok { OnOk result (W.faults self.new.inner ≡ W.faults self.old.inner) }
         ensures cause { IfErr result (SinkCause (W.faults self.old.inner) (W.faults self.new.inner)) }
     {
@@ -95,6 +98,7 @@ impl<W: ByteSink + Drop> ExplainedRows<W> {
             (λ _. Appends (lines_at self.old.place (W.contents self.old.inner)) (lines_at self.new.place (W.contents self.new.inner)) (lines_told self.old.place octets.now))
             (λ _. AppendsPrefix (lines_at self.old.place (W.contents self.old.inner)) (lines_at self.new.place (W.contents self.new.inner)) (lines_told self.old.place octets.now)) }
         ensures passed { OnOk result (self.new.place ≡ place_after self.old.place octets.now) }
+        ensures whole { OnOk result (Appends (W.contents self.old.inner) (W.contents self.new.inner) octets.now) }
         ensures ok { OnOk result (W.faults self.new.inner ≡ W.faults self.old.inner) }
         ensures cause { IfErr result (SinkCause (W.faults self.old.inner) (W.faults self.new.inner)) }
     {

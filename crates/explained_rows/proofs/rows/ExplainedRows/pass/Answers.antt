@@ -1,5 +1,5 @@
 use Rattle.explained_rows.proofs.Prelude.{◌≡◌, ◌∙◌, ◌-◌, List, ℕ, refl, sym, subst, drop, length, take, arith, err_from_is_err_and, length-drop, take_all, take_rest, Appends, Keeps, lines_at, lines_told, told_at}
-use Rattle.explained_rows.proofs.Telling.{keeps_then, lines_cut, lines_on, passed_on, silent}
+use Rattle.explained_rows.proofs.Telling.{keeps_then, lines_cut, lines_on, passed_on, silent, written_more}
 use Rattle.explained_rows.proofs.rows.ExplainedRows.pass.Goals as goal
 
 pub loop-done-preserved : goal.loop-done-preserved
@@ -25,6 +25,8 @@ loop-done-preserved g c =
           (silent place kept kept' (take count rest) on.prefix c.in_ok-count.ensures.bytes));
       lines = lines_on initial place octets done c.loop-done.invariant.place first kept c.loop-done.invariant.lines now kept' rest count is
           c.after-self-inside.ensures c.in_ok-count.ensures.bytes;
+      whole = written_more first kept kept' done count octets c.loop-done.invariant.whole
+          (subst (λ r. Appends kept kept' (take count r)) is c.in_ok-count.ensures.bytes);
       none_failed = c.in_ok-count.ensures.ok ∙ c.loop-done.invariant.none_failed;
     }
 
@@ -45,3 +47,10 @@ returns-clause-lines g c =
     let P : List ℕ → Type 0 =
     λ l. Appends (lines_at c.self.inside.place first) (lines_at c.loop-done.self-inside.place last) (lines_told c.self.inside.place l) in
     rw (← c.self.view_is) (subst P whole c.loop-done.invariant.lines)
+
+pub returns-clause-whole : goal.returns-clause-whole
+returns-clause-whole g c =
+    let whole : take c.loop-done.done c.args.octets.now ≡ c.args.octets.now = take_all c.loop-done.done c.args.octets.now (omega (arith, c.loop-done-test.false)) in
+    let first = g.W.ByteSink.contents c.self.inside.inner in
+    let last = g.W.ByteSink.contents c.loop-done.self-inside.inner in
+    rw (← c.self.view_is) (subst (Appends first last) whole c.loop-done.invariant.whole)

@@ -10,6 +10,7 @@ invariant-loop-done g l = record {
       (told_at l.self-inside.place (g.W.ByteSink.contents l.self-inside.inner));
   lines : Appends (lines_at l.initial.self-inside.place (g.W.ByteSink.contents l.initial.self-inside.inner))
       (lines_at l.self-inside.place (g.W.ByteSink.contents l.self-inside.inner)) (lines_told l.initial.self-inside.place (take l.done l.octets));
+  whole : Appends (g.W.ByteSink.contents l.initial.self-inside.inner) (g.W.ByteSink.contents l.self-inside.inner) (take l.done l.octets);
   none_failed : g.W.ByteSink.faults l.self-inside.inner ≡ g.W.ByteSink.faults l.initial.self-inside.inner;
 }
 
