@@ -1,8 +1,6 @@
 //! Sources and sinks that fail at one call and go on behind it.
 use bcast_base::{Calls, Octets};
-use bcast_io::{
-    ByteSource, Failed, LineRead, LineReader, MemorySink, MemorySource, SinkFault, write_whole,
-};
+use bcast_io::{Failed, LineRead, LineReader, MemorySink, MemorySource, SinkFault, write_whole};
 use std::alloc::Global;
 
 /// The list of this call alone.
@@ -32,7 +30,7 @@ fn a_memory_sink_fails_at_its_call_alone(rt: HostRuntime) {
 }
 
 /// Whether the next line is this one.
-fn reads<S: ByteSource>(reader: &mut LineReader, source: &mut S, line: &[u8]) -> bool {
+fn reads(reader: &mut LineReader, source: &mut MemorySource, line: &[u8]) -> bool {
     match reader.next_line(source) {
         Ok(LineRead::Line) => reader.line() == line,
         _ => false,
