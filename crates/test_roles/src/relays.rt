@@ -2,13 +2,12 @@
 ghost use Rattle.std.specs.Prelude.{◌≡◌, None, IfOk, true};
 ghost use Rattle.relay_role.specs.State.Flushing.{MayTake};
 
-use crate::numbers::SINGLE;
+use crate::numbers::{SINGLE, setup_of};
 use crate::refusing::Refusing;
-use base_grammar::decode_base;
 use bcast_base::Bis;
 use big_info::{BigInfo, Limits};
 use relay_role::{DropName, DroppedUnit, Relay, RelayTaker};
-use source_machine::{Identity, Setup, SourceIdle, SourceStreaming};
+use source_machine::{SourceIdle, SourceStreaming};
 use std::alloc::Global;
 use unit_outlets::{TakerFault, UnitTaker};
 
@@ -26,14 +25,11 @@ const HALL: BigInfo = BigInfo {
     ..SINGLE
 };
 
-/// A BASE of a presentation delay of 40 ms and one stream of a codec other than LC3.
-const BASE: [u8; 14] = [0x40, 0x9c, 0, 1, 1, 0xff, 1, 0, 2, 0, 0, 0, 1, 0];
-
 /// More octets than a unit of the source may have.
 const LONG: [u8; 9] = [0; 9];
 
 /// Units of a stream: 17 at rising times, one that comes too late, and one that is too long.
-const MANY: [(u64, &[u8]); 19] = [
+static MANY: [(u64, &[u8]); 19] = [
     (1, &[1]),
     (2, &[2]),
     (3, &[3]),
@@ -62,22 +58,11 @@ fn hall(alloc: Global) -> Result<SourceStreaming, &'static str>
     ensures streams { IfOk result (λ source. source.setup.info.num_bis ≡ 2) }
     ensures ahead { IfOk result (λ source. source.setup.ahead ≡ true) }
 {
-    let Ok(base) = decode_base(alloc, &BASE) else {
-        return Err("no memory");
-    };
     if !HALL.fits() {
         return Err("too wide");
     }
-    let setup = Setup {
-        identity: Identity {
-            address_type: 0,
-            address: [0; 6],
-            sid: 1,
-            broadcast_id: [0; 3],
-        },
-        info: HALL,
-        base,
-        origin: 70000,
+    let Some(setup) = setup_of(alloc, HALL, 1, 70000) else {
+        return Err("no memory");
     };
     let Ok(configured) = SourceIdle::new(alloc).configure_within(setup, Limits::VERSION_2) else {
         return Err("no group");
