@@ -56,9 +56,7 @@ fn loses_its_unit(receiver: &mut FramedIn, taken: &mut Taken) -> bool {
 
 #[test]
 fn what_is_held_is_lost_after_a_gap(rt: HostRuntime) {
-    let Some(mut receiver) = framed_in(rt.alloc(), &SEGMENTS) else {
-        return assert!(rt; false);
-    };
+    let mut receiver = framed_in(rt.alloc(), &SEGMENTS).expect(&rt, "a receiver");
     let mut taken = Taken::new(rt.alloc());
     assert!(rt;
         holds_the_start(&mut receiver, &mut taken) && loses_its_unit(&mut receiver, &mut taken)

@@ -41,9 +41,7 @@ fn hands_it(receiver: &mut UnframedIn, taken: &mut Taken) -> bool {
 
 #[test]
 fn what_is_held_is_handed_at_the_close(rt: HostRuntime) {
-    let Some(mut receiver) = unframed_in(rt.alloc(), &FRAGMENTS) else {
-        return assert!(rt; false);
-    };
+    let mut receiver = unframed_in(rt.alloc(), &FRAGMENTS).expect(&rt, "a receiver");
     let mut taken = Taken::new(rt.alloc());
     assert!(rt; holds_a_fragment(&mut receiver) && hands_it(&mut receiver, &mut taken));
 }

@@ -112,6 +112,14 @@ fn ends_unframed(receiver: &mut UnframedIn, taker: &mut Refusing, fault: TakerFa
     true
 }
 
+/// Whether a close makes three calls, and each one that is refused ends its own, whatever the fault.
+fn ends_each_unframed(receiver: &mut UnframedIn, taker: &mut Refusing) -> bool {
+    let all = close_unframed(receiver, taker);
+    taker.took(all, 3)
+        && ends_unframed(receiver, taker, TakerFault::Failed)
+        && ends_unframed(receiver, taker, TakerFault::Memory)
+}
+
 /// Whether each of three calls, refused for this fault, is the last one of its close.
 fn ends_framed(receiver: &mut FramedIn, taker: &mut Refusing, fault: TakerFault) -> bool {
     'calls: for call in 1..4usize {
@@ -122,6 +130,14 @@ fn ends_framed(receiver: &mut FramedIn, taker: &mut Refusing, fault: TakerFault)
         }
     }
     true
+}
+
+/// The same of a framed receiver.
+fn ends_each_framed(receiver: &mut FramedIn, taker: &mut Refusing) -> bool {
+    let all = close_framed(receiver, taker);
+    taker.took(all, 3)
+        && ends_framed(receiver, taker, TakerFault::Failed)
+        && ends_framed(receiver, taker, TakerFault::Memory)
 }
 
 /// Whether an event is closed for both streams.
@@ -152,44 +168,39 @@ fn ends_tick(
     true
 }
 
+/// The same of the ticks of a sink on one stream of framed units and two of others.
+fn ends_each_tick(sink: &mut GroupSink, taker: &mut Refusing) -> bool {
+    let (Some(first), Some(second)) = (Bis::new(1), Bis::new(2)) else {
+        return false;
+    };
+    let one = BisSet::new().with(first);
+    if !tunes(sink, &SEGMENTS, one) || !tunes(sink, &THREE_UNITS, one.with(second)) {
+        return false;
+    }
+    let streams = [first, second];
+    let all = tick(sink, &streams, 0, taker);
+    taker.took(all, 6)
+        && ends_tick(sink, &streams, 0, taker, TakerFault::Failed)
+        && ends_tick(sink, &streams, 6, taker, TakerFault::Memory)
+}
+
 #[test]
 fn a_close_of_fragments_ends_with_the_call_that_was_refused(rt: HostRuntime) {
-    let Some(mut receiver) = unframed_in(rt.alloc(), &THREE_UNITS) else {
-        return assert!(rt; false);
-    };
+    let mut receiver = unframed_in(rt.alloc(), &THREE_UNITS).expect(&rt, "a receiver");
     let mut taker = Refusing::new(rt.alloc());
-    let all = close_unframed(&mut receiver, &mut taker);
-    assert!(rt; taker.took(all, 3));
-    assert!(rt; ends_unframed(&mut receiver, &mut taker, TakerFault::Failed));
-    assert!(rt; ends_unframed(&mut receiver, &mut taker, TakerFault::Memory));
+    assert!(rt; ends_each_unframed(&mut receiver, &mut taker));
 }
 
 #[test]
 fn a_close_of_segments_ends_with_the_call_that_was_refused(rt: HostRuntime) {
-    let Some(mut receiver) = framed_in(rt.alloc(), &SEGMENTS) else {
-        return assert!(rt; false);
-    };
+    let mut receiver = framed_in(rt.alloc(), &SEGMENTS).expect(&rt, "a receiver");
     let mut taker = Refusing::new(rt.alloc());
-    let all = close_framed(&mut receiver, &mut taker);
-    assert!(rt; taker.took(all, 3));
-    assert!(rt; ends_framed(&mut receiver, &mut taker, TakerFault::Failed));
-    assert!(rt; ends_framed(&mut receiver, &mut taker, TakerFault::Memory));
+    assert!(rt; ends_each_framed(&mut receiver, &mut taker));
 }
 
 #[test]
 fn a_tick_of_two_streams_ends_with_the_call_that_was_refused(rt: HostRuntime) {
-    let (Some(first), Some(second)) = (Bis::new(1), Bis::new(2)) else {
-        return assert!(rt; false);
-    };
-    let one = BisSet::new().with(first);
     let mut sink = GroupSink::new(rt.alloc());
-    assert!(rt;
-        tunes(&mut sink, &SEGMENTS, one) && tunes(&mut sink, &THREE_UNITS, one.with(second))
-    );
     let mut taker = Refusing::new(rt.alloc());
-    let streams = [first, second];
-    let all = tick(&mut sink, &streams, 0, &mut taker);
-    assert!(rt; taker.took(all, 6));
-    assert!(rt; ends_tick(&mut sink, &streams, 0, &mut taker, TakerFault::Failed));
-    assert!(rt; ends_tick(&mut sink, &streams, 6, &mut taker, TakerFault::Memory));
+    assert!(rt; ends_each_tick(&mut sink, &mut taker));
 }

@@ -149,8 +149,22 @@ fn a_relay_copies_what_its_stream_hands_and_the_taker_takes(rt: HostRuntime) {
     let mut taker = RelayTaker::new(Relay::new(rt.alloc(), one, two), refusing);
     assert!(rt; is_handed_each(&mut taker, one, two));
     let (mut relay, taken) = taker.parts();
-    assert!(rt; taken.has_counts(5, 4));
-    assert!(rt; drops_all(&mut relay, 2) && drops_all(&mut relay, 0));
+    assert!(rt; taken.has_counts(5, 4) && drops_all(&mut relay, 2) && drops_all(&mut relay, 0));
+}
+
+/// Whether a flush to a source of that group drops the last three of these units.
+fn drops_the_last(alloc: Global, relay: &mut Relay) -> bool
+    requires { relay.old.to ≡ 1 }
+{
+    let Ok(mut source) = hall(alloc) else {
+        return false;
+    };
+    let units = [
+        dropped(16, DropName::Backlog),
+        dropped(17, DropName::TimeOrder),
+        dropped(18, DropName::UnitTooLong),
+    ];
+    drops(relay, &mut source, &units)
 }
 
 #[test]
@@ -161,18 +175,5 @@ fn no_more_than_16_units_of_a_relay_wait(rt: HostRuntime) {
     let Ok(mut relay) = relay_of(rt.alloc(), one, &MANY) else {
         return assert!(rt; false);
     };
-    let Ok(mut source) = hall(rt.alloc()) else {
-        return assert!(rt; false);
-    };
-    assert!(rt;
-        drops(
-            &mut relay,
-            &mut source,
-            &[
-                dropped(16, DropName::Backlog),
-                dropped(17, DropName::TimeOrder),
-                dropped(18, DropName::UnitTooLong)
-            ]
-        )
-    );
+    assert!(rt; drops_the_last(rt.alloc(), &mut relay));
 }
