@@ -48,6 +48,18 @@ fn sends_twice(source: &mut SourceStreaming, pdu: &[u8]) -> bool
     }
 }
 
+/// Whether a unit is taken and sent twice in the next event, that of number 3.
+fn sends_its_unit(source: &mut SourceStreaming, one: Bis) -> bool
+    requires { source.old.cipher ≡ None }
+{
+    if source.give(one, None, &[0xC0]).is_err() {
+        return false;
+    }
+    sends_twice(source, &[0x00, 0x01, 0xC0])
+        && source.next_event() == 4
+        && source.next_anchor() == 30000
+}
+
 #[test]
 fn a_source_sends_each_pdu_at_its_place(rt: HostRuntime) {
     assert!(rt; TWICE.fits());
@@ -57,8 +69,6 @@ fn a_source_sends_each_pdu_at_its_place(rt: HostRuntime) {
     let Ok(mut source) = streaming(rt.alloc(), TWICE, 3) else {
         return assert!(rt; false);
     };
-    assert!(rt; source.give(one, None, &[0xC0]).is_ok());
-    assert!(rt; sends_twice(&mut source, &[0x00, 0x01, 0xC0]));
-    assert!(rt; source.next_event() == 4 && source.next_anchor() == 30000);
+    assert!(rt; sends_its_unit(&mut source, one));
     let _ = source.stop().release();
 }

@@ -95,17 +95,33 @@ fn is_heard_once_stopped(field: &mut Field, one: Bis) -> bool
         && field.source(0).is_none()
 }
 
+/// The same behind the start of both.
+fn is_heard_beside_the_other(field: &mut Field, alloc: Global, info: BigInfo) -> bool
+    requires first { begun_of field.old 0 ≡ None }
+    requires second { begun_of field.old 1 ≡ None }
+    requires widths { FitsWidths info }
+    requires plain { info.cipher ≡ None }
+{
+    let Some(one) = Bis::new(1) else {
+        return false;
+    };
+    let Ok(()) = both_start(field, alloc, info) else {
+        return false;
+    };
+    is_heard_once_stopped(field, one)
+}
+
+/// Whether a sink that is put on source 0 is of it, and another is of none.
+fn keeps_its_sink(field: &mut Field) -> bool {
+    field.put(7, 0);
+    field.of(7) == Some(0) && field.of(6).is_none()
+}
+
 #[test]
 fn a_source_that_was_stopped_is_still_heard_beside_the_other(rt: HostRuntime) {
     assert!(rt; SINGLE.fits());
-    let Some(one) = Bis::new(1) else {
-        return assert!(rt; false);
-    };
     let mut field = idle(rt.alloc());
-    let Ok(()) = both_start(&mut field, rt.alloc(), SINGLE) else {
-        return assert!(rt; false);
-    };
-    assert!(rt; is_heard_once_stopped(&mut field, one));
-    field.put(7, 0);
-    assert!(rt; field.of(7) == Some(0) && field.of(6).is_none());
+    assert!(rt;
+        is_heard_beside_the_other(&mut field, rt.alloc(), SINGLE) && keeps_its_sink(&mut field)
+    );
 }
