@@ -44,7 +44,22 @@ fn may_end(ended: Ended, written: &[u8]) -> bool {
     }
 }
 
-/// How the whole life ends where this call fails, by the source and the sink. `None` where something else was written.
+/// How the whole life ends between a source and a sink. `None` where something else was written.
+fn end_between(
+    alloc: Global,
+    source: &mut MemorySource,
+    sink: &mut MemorySink,
+    outlets: &mut Vec<Box<dyn Outlet>>,
+) -> Option<Ended> {
+    let ended = run_with(alloc, Kind::Lines, source, sink, outlets);
+    if may_end(ended, sink.taken()) {
+        Some(ended)
+    } else {
+        None
+    }
+}
+
+/// The same where this call fails, by the source and the sink.
 fn end_into(
     alloc: Global,
     failing: Failing,
@@ -62,12 +77,7 @@ fn end_into(
     }
     let mut source = MemorySource::new(octets, 64, reads);
     let mut sink = MemorySink::new(alloc, 16, writes);
-    let ended = run_with(alloc, Kind::Lines, &mut source, &mut sink, outlets);
-    if may_end(ended, sink.taken()) {
-        Some(ended)
-    } else {
-        None
-    }
+    end_between(alloc, &mut source, &mut sink, outlets)
 }
 
 /// The same, by the box too.
