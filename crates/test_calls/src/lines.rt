@@ -1,5 +1,5 @@
 //! Lines that are read and written.
-use scenario_lines::{read_line, read_line_in, write_line};
+use scenario_lines::{LineFault, read_line, read_line_in, write_line};
 use scenario_text::Step;
 use std::alloc::Global;
 
@@ -56,7 +56,14 @@ static LINES: [&[u8]; 49] = [
     b"modify 0 255 2 0 01000000 - 06000000 0304aa",
 ];
 
-fn writes(alloc: Global, step: &Step, wanted: &[u8]) -> bool {
+/// What a line is to be read as: a step that is written so, or a unit of these octets.
+#[derive(Clone, Copy)]
+enum Wanted<'a> {
+    Text(&'a [u8]),
+    Unit(&'a [u8]),
+}
+
+fn is_written(alloc: Global, step: &Step, wanted: &[u8]) -> bool {
     if !step.fits() {
         return false;
     }
@@ -64,22 +71,6 @@ fn writes(alloc: Global, step: &Step, wanted: &[u8]) -> bool {
         Ok(text) => text.as_slice() == wanted,
         Err(_) => false,
     }
-}
-
-fn is_written(alloc: Global, line: &[u8], wanted: &[u8]) -> bool {
-    match &read_line_in(alloc, 2, line) {
-        Ok(Some(step)) => writes(alloc, step, wanted),
-        _ => false,
-    }
-}
-
-// Digits of either case are written in lower case.
-#[test]
-fn a_line_that_is_read_is_written_back(rt: HostRuntime) {
-    for line in &LINES {
-        assert!(rt; is_written(rt.alloc(), line, line));
-    }
-    assert!(rt; is_written(rt.alloc(), b"unit 31 60060 0A0b", b"unit 31 60060 0a0b"));
 }
 
 fn is_unit(step: &Step, wanted: &[u8]) -> bool {
@@ -91,15 +82,41 @@ fn is_unit(step: &Step, wanted: &[u8]) -> bool {
     }
 }
 
-/// Whether a unit is read in version 1.
-fn reads_a_unit(alloc: Global, line: &[u8], wanted: &[u8]) -> bool {
-    match &read_line(alloc, line) {
-        Ok(Some(step)) => is_unit(step, wanted),
+impl Wanted<'_> {
+    fn is_met(&self, alloc: Global, step: &Step) -> bool {
+        match self {
+            Wanted::Text(text) => is_written(alloc, step, text),
+            Wanted::Unit(octets) => is_unit(step, octets),
+        }
+    }
+}
+
+fn is_wanted(alloc: Global, read: Result<Option<Step>, LineFault>, wanted: &Wanted) -> bool {
+    match &read {
+        Ok(Some(step)) => wanted.is_met(alloc, step),
         _ => false,
     }
 }
 
+// Digits of either case are written in lower case.
+#[test]
+fn a_line_that_is_read_is_written_back(rt: HostRuntime) {
+    for line in &LINES {
+        assert!(rt;
+            is_wanted(
+                rt.alloc(),
+                read_line_in(rt.alloc(), 2, line),
+                &Wanted::Text(line)
+            )
+        );
+    }
+    let read = read_line_in(rt.alloc(), 2, b"unit 31 60060 0A0b");
+    assert!(rt; is_wanted(rt.alloc(), read, &Wanted::Text(b"unit 31 60060 0a0b")));
+}
+
+// A unit is read in version 1.
 #[test]
 fn a_unit_is_read_with_ample_memory(rt: HostRuntime) {
-    assert!(rt; reads_a_unit(rt.alloc(), b"unit 31 60060 0A0b", &[0x0a, 0x0b]));
+    let read = read_line(rt.alloc(), b"unit 31 60060 0A0b");
+    assert!(rt; is_wanted(rt.alloc(), read, &Wanted::Unit(&[0x0a, 0x0b])));
 }
