@@ -42,7 +42,7 @@ const BEACON: [u8; 17] = [
 ];
 
 // A list, a type, and the contents of its first structure of this type. A length of 0 ends a list.
-const STRUCTURES: [(&[u8], u8, &[u8]); 14] = [
+static STRUCTURES: [(&[u8], u8, &[u8]); 14] = [
     (
         &GIGASET,
         0x03,
@@ -86,13 +86,13 @@ fn has(ads: &[u8], kind: u8, contents: &[u8]) -> bool {
 
 #[test]
 fn lists_have_their_structures(rt: HostRuntime) {
-    for (ads, kind, contents) in STRUCTURES {
-        assert!(rt; has(ads, kind, contents));
+    for (ads, kind, contents) in &STRUCTURES {
+        assert!(rt; has(ads, *kind, contents));
     }
 }
 
 // A list, a UUID of 16 bits, and its service data: of a beacon, and of a BASE.
-const SERVICES: [(&[u8], u16, &[u8]); 2] = [
+static SERVICES: [(&[u8], u16, &[u8]); 2] = [
     (
         &BEACON,
         0xfed8,
@@ -110,8 +110,8 @@ fn serves(ads: &[u8], uuid: u16, content: &[u8]) -> bool {
 
 #[test]
 fn lists_have_their_service_data(rt: HostRuntime) {
-    for (ads, uuid, content) in SERVICES {
-        assert!(rt; serves(ads, uuid, content));
+    for (ads, uuid, content) in &SERVICES {
+        assert!(rt; serves(ads, *uuid, content));
     }
 }
 

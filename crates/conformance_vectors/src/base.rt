@@ -1,4 +1,6 @@
 //! BASEs: worked examples, and the place of each fault of the decoder.
+ghost use Rattle.std.specs.Prelude.{◌≡◌, []};
+
 use base_grammar::{Base, BaseDraft, BaseFault, decode_base, encode_base};
 use bcast_base::Bis;
 use ltv_codec::{LtvBad, check_ltvs};
@@ -27,28 +29,47 @@ const TWO_SUBGROUPS: [u8; 49] = [
     3, 1, 0, 0, 0, 2, 0xff, 1, 0, 2, 0, 2, 0xab, 0xcd, 0, 2, 0, 3, 1, 0x77,
 ];
 
-// A draft of these subgroups, where nothing refuses it.
-fn drafted(alloc: Global, first: Bis, second: Bis, third: Bis) -> Option<Base> {
+// Whether an empty draft takes these subgroups.
+fn takes_subgroups(draft: &mut BaseDraft, first: Bis, second: Bis, third: Bis) -> bool
+    requires { draft.old.subgroups ≡ [] }
+{
     let Ok(()) = check_ltvs(&CONFIG) else {
-        return None;
+        return false;
     };
     let Ok(()) = check_ltvs(&METADATA) else {
-        return None;
+        return false;
     };
     let Ok(()) = check_ltvs(&ALLOCATION) else {
-        return None;
+        return false;
     };
+    let Ok(()) = draft.subgroup(LC3, &CONFIG) else {
+        return false;
+    };
+    let Ok(()) = draft.metadata(&METADATA) else {
+        return false;
+    };
+    let Ok(()) = draft.bis(first, &ALLOCATION) else {
+        return false;
+    };
+    let Ok(()) = draft.subgroup(VENDOR, &[0xab, 0xcd]) else {
+        return false;
+    };
+    let Ok(()) = draft.bis(second, &[]) else {
+        return false;
+    };
+    draft.bis(third, &[0x77]).is_ok()
+}
+
+// A draft of these subgroups, where nothing refuses it.
+fn drafted(alloc: Global, first: Bis, second: Bis, third: Bis) -> Option<Base> {
     let mut draft = BaseDraft::new(alloc, 40000);
-    draft.subgroup(LC3, &CONFIG).ok()?;
-    draft.metadata(&METADATA).ok()?;
-    draft.bis(first, &ALLOCATION).ok()?;
-    draft.subgroup(VENDOR, &[0xab, 0xcd]).ok()?;
-    draft.bis(second, &[]).ok()?;
-    draft.bis(third, &[0x77]).ok()?;
+    if !takes_subgroups(&mut draft, first, second, third) {
+        return None;
+    }
     draft.finish().ok()
 }
 
-fn encodes(alloc: Global, base: &Base, octets: &[u8]) -> bool {
+pub(crate) fn encodes(alloc: Global, base: &Base, octets: &[u8]) -> bool {
     match encode_base(alloc, base) {
         Ok(encoded) => encoded.as_slice() == octets,
         Err(_) => false,
@@ -101,7 +122,7 @@ fn a_cut_base_is_short_from_its_cut(rt: HostRuntime) {
 }
 
 // A place of the BASE, an octet there, and the fault that it brings.
-const CHANGES: [(usize, u8, BaseFault); 5] = [
+static CHANGES: [(usize, u8, BaseFault); 5] = [
     (3, 0, BaseFault::NoSubgroup),
     (4, 0, BaseFault::NoBis { place: 4 }),
     (
@@ -118,12 +139,12 @@ const CHANGES: [(usize, u8, BaseFault); 5] = [
 
 #[test]
 fn a_field_that_breaks_its_row_is_told(rt: HostRuntime) {
-    for (place, octet, fault) in CHANGES {
+    for (place, octet, fault) in &CHANGES {
         let mut octets = BASE;
-        if place < octets.len() {
-            octets[place] = octet;
+        if *place < octets.len() {
+            octets[*place] = *octet;
         }
-        assert!(rt; has_fault(rt.alloc(), &octets, fault));
+        assert!(rt; has_fault(rt.alloc(), &octets, *fault));
     }
 }
 

@@ -96,7 +96,7 @@ fn reads(from: &[u8], octets: &[u8]) -> bool {
     }
 }
 
-const SPELLED: [(&BigInfo, &[u8]); 3] = [
+static SPELLED: [(&BigInfo, &[u8]); 3] = [
     (&PLAIN, &ANNOUNCED),
     (&LOCKED, &ENCRYPTED),
     (&GREATEST, &FILLED),
@@ -104,7 +104,7 @@ const SPELLED: [(&BigInfo, &[u8]); 3] = [
 
 #[test]
 fn each_info_has_its_octets(rt: HostRuntime) {
-    for (info, octets) in SPELLED {
+    for (info, octets) in &SPELLED {
         assert!(rt; encodes(info, octets));
         assert!(rt; reads(octets, octets));
     }

@@ -21,29 +21,31 @@ const CODE: [u8; 18] = [
 ];
 
 fn is_written_as_read(alloc: Global, octets: &[u8]) -> bool {
-    let Ok(op) = decode_operation(alloc, octets) else {
+    let Ok(op) = &decode_operation(alloc, octets) else {
         return false;
     };
-    match encode_operation(alloc, &op) {
+    match encode_operation(alloc, op) {
         Ok(encoded) => encoded.as_slice() == octets,
         Err(_) => false,
     }
 }
 
-const WRITTEN: [&[u8]; 4] = [&ADD, &MODIFY, &CODE, &[5, 5]];
+static WRITTEN: [&[u8]; 4] = [&ADD, &MODIFY, &CODE, &[5, 5]];
 
 #[test]
 fn operations_are_written_as_they_were_read(rt: HostRuntime) {
-    for octets in WRITTEN {
+    for octets in &WRITTEN {
         assert!(rt; is_written_as_read(rt.alloc(), octets));
     }
 }
 
 fn adds_without_preference(alloc: Global, octets: &[u8]) -> bool {
-    match decode_operation(alloc, octets) {
+    match &decode_operation(alloc, octets) {
         Ok(Operation::Add(add)) => {
-            let fields = (add.address_type, add.sid, add.pa_sync, add.pa_interval);
-            fields == (0, 3, 2, 0xffff)
+            add.address_type == 0
+                && add.sid == 3
+                && add.pa_sync == 2
+                && add.pa_interval == 0xffff
                 && add.wishes.count() == 1
                 && add.wishes.item(0).bis_sync == 0xffff_ffff
         }
@@ -57,7 +59,7 @@ fn an_add_source_tells_its_fields(rt: HostRuntime) {
 }
 
 // Writes that are refused, those with octets more than their fields among them, and the first fault of each.
-const REFUSED: [(&[u8], OpFault); 13] = [
+static REFUSED: [(&[u8], OpFault); 13] = [
     (&[], OpFault::Empty),
     (&[6], OpFault::Opcode),
     (&[0xff], OpFault::Opcode),
@@ -98,16 +100,16 @@ const REFUSED: [(&[u8], OpFault); 13] = [
 ];
 
 fn has_fault(alloc: Global, octets: &[u8], wanted: OpFault) -> bool {
-    match decode_operation(alloc, octets) {
+    match &decode_operation(alloc, octets) {
         Ok(_) => false,
-        Err(fault) => fault == wanted,
+        Err(fault) => *fault == wanted,
     }
 }
 
 #[test]
 fn refused_writes_tell_the_first_fault(rt: HostRuntime) {
-    for (octets, fault) in REFUSED {
-        assert!(rt; has_fault(rt.alloc(), octets, fault));
+    for (octets, fault) in &REFUSED {
+        assert!(rt; has_fault(rt.alloc(), octets, *fault));
     }
 }
 

@@ -28,11 +28,11 @@ fn is_written_as_read(alloc: Global, octets: &[u8]) -> bool {
     }
 }
 
-const WRITTEN: [&[u8]; 3] = [&SINK_PAC, &TWO_RECORDS, &[0]];
+static WRITTEN: [&[u8]; 3] = [&SINK_PAC, &TWO_RECORDS, &[0]];
 
 #[test]
 fn values_are_written_as_they_were_read(rt: HostRuntime) {
-    for octets in WRITTEN {
+    for octets in &WRITTEN {
         assert!(rt; is_written_as_read(rt.alloc(), octets));
     }
 }

@@ -72,7 +72,7 @@ fn fragments_are_written(rt: HostRuntime) {
 }
 
 // Octets that are no PDU of at most so many octets, and the fault of each.
-const REFUSED: [(&[u8], u8, PduFault); 7] = [
+static REFUSED: [(&[u8], u8, PduFault); 7] = [
     (&[0], 4, PduFault::Short),
     (&[0, 2, 0xee], 4, PduFault::LengthDiffers),
     (&[2, 5, 0xaa], 10, PduFault::LengthDiffers),
@@ -99,32 +99,34 @@ fn has_fault(octets: &[u8], max_pdu: u8, wanted: PduFault) -> bool {
 
 #[test]
 fn octets_that_are_no_pdu_have_their_fault(rt: HostRuntime) {
-    for (octets, max_pdu, fault) in REFUSED {
-        assert!(rt; has_fault(octets, max_pdu, fault));
+    for (octets, max_pdu, fault) in &REFUSED {
+        assert!(rt; has_fault(octets, *max_pdu, *fault));
     }
 }
 
+// Control payloads, and what they are read as.
+static PAYLOADS: [(&[u8], Result<Control, ControlFault>); 6] = [
+    (
+        &[0x01, 0x13, 0x01, 0x00],
+        Ok(Control::Terminate {
+            reason: 19,
+            instant: 1,
+        }),
+    ),
+    (&[0, 0, 0, 0, 0, 0, 0, 0], Ok(Control::ChannelMap)),
+    (&[], Err(ControlFault::Opcode)),
+    (&[0x02], Err(ControlFault::Opcode)),
+    (&[0x01, 0x13, 0x01], Err(ControlFault::ControlLength)),
+    (
+        &[0, 0, 0, 0, 0, 0, 0, 0, 0],
+        Err(ControlFault::ControlLength),
+    ),
+];
+
 #[test]
 fn control_payloads_are_read(rt: HostRuntime) {
-    let rows: [(&[u8], Result<Control, ControlFault>); 6] = [
-        (
-            &[0x01, 0x13, 0x01, 0x00],
-            Ok(Control::Terminate {
-                reason: 19,
-                instant: 1,
-            }),
-        ),
-        (&[0, 0, 0, 0, 0, 0, 0, 0], Ok(Control::ChannelMap)),
-        (&[], Err(ControlFault::Opcode)),
-        (&[0x02], Err(ControlFault::Opcode)),
-        (&[0x01, 0x13, 0x01], Err(ControlFault::ControlLength)),
-        (
-            &[0, 0, 0, 0, 0, 0, 0, 0, 0],
-            Err(ControlFault::ControlLength),
-        ),
-    ];
-    for (octets, answer) in rows {
-        assert!(rt; read_control(octets) == answer);
+    for (octets, answer) in &PAYLOADS {
+        assert!(rt; read_control(octets) == *answer);
     }
 }
 

@@ -27,8 +27,8 @@ fn encodes(alloc: Global, state: &ReceiveState, octets: &[u8]) -> bool {
 }
 
 fn is_written_as_read(alloc: Global, octets: &[u8]) -> bool {
-    match decode_state(alloc, octets) {
-        Ok(Some(state)) => encodes(alloc, &state, octets),
+    match &decode_state(alloc, octets) {
+        Ok(Some(state)) => encodes(alloc, state, octets),
         _ => false,
     }
 }
@@ -40,12 +40,10 @@ fn states_are_written_as_they_were_read(rt: HostRuntime) {
 }
 
 fn is_not_synchronised(state: &ReceiveState) -> bool {
-    (
-        state.source_id,
-        state.address_type,
-        state.sid,
-        state.pa_sync_state,
-    ) == (0, 0, 3, 0)
+    state.source_id == 0
+        && state.address_type == 0
+        && state.sid == 3
+        && state.pa_sync_state == 0
         && matches!(&state.encryption, Encryption::None)
         && state.groups.count() == 1
         && state.groups.item(0).bis_sync_state == 0
@@ -53,8 +51,8 @@ fn is_not_synchronised(state: &ReceiveState) -> bool {
 
 #[test]
 fn a_state_tells_its_fields(rt: HostRuntime) {
-    match decode_state(rt.alloc(), &STATE) {
-        Ok(Some(state)) => assert!(rt; is_not_synchronised(&state)),
+    match &decode_state(rt.alloc(), &STATE) {
+        Ok(Some(state)) => assert!(rt; is_not_synchronised(state)),
         _ => assert!(rt; false),
     }
 }
@@ -65,27 +63,27 @@ const CUTS: [usize; 19] = [
 ];
 
 fn has_fault(alloc: Global, octets: &[u8], wanted: StateFault) -> bool {
-    match decode_state(alloc, octets) {
+    match &decode_state(alloc, octets) {
         Ok(_) => false,
-        Err(fault) => fault == wanted,
+        Err(fault) => *fault == wanted,
     }
 }
 
 #[test]
 fn a_state_that_is_cut_is_short_at_the_field_that_is_cut(rt: HostRuntime) {
-    for (i, place) in CUTS.iter().enumerate() {
+    for i in 0..CUTS.len() {
         assert!(rt;
             has_fault(
                 rt.alloc(),
                 &STATE[..i + 1],
-                StateFault::Short { place: *place }
+                StateFault::Short { place: CUTS[i] }
             )
         );
     }
 }
 
 // Each change of an octet brings a fault that comes before those of the earlier changes.
-const CHANGES: [(usize, u8, StateFault); 4] = [
+static CHANGES: [(usize, u8, StateFault); 4] = [
     (20, 0, StateFault::Trailing { place: 20 }),
     (18, 0x80, StateFault::Rfu { place: 15 }),
     (13, 4, StateFault::Rfu { place: 13 }),
@@ -96,11 +94,11 @@ const CHANGES: [(usize, u8, StateFault); 4] = [
 fn a_reserved_value_comes_before_octets_that_are_left(rt: HostRuntime) {
     let mut octets = [0; 21];
     octets[..20].copy_from_slice(&STATE);
-    for (place, octet, fault) in CHANGES {
-        if place < octets.len() {
-            octets[place] = octet;
+    for (place, octet, fault) in &CHANGES {
+        if *place < octets.len() {
+            octets[*place] = *octet;
         }
-        assert!(rt; has_fault(rt.alloc(), &octets, fault));
+        assert!(rt; has_fault(rt.alloc(), &octets, *fault));
     }
 }
 

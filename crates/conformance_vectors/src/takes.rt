@@ -29,7 +29,6 @@ const BARE: [u8; 14] = [0x40, 0x9c, 0, 1, 1, 6, 0, 0, 0, 0, 0, 0, 1, 0];
 const VENDOR: [u8; 14] = [0x40, 0x9c, 0, 1, 1, 0xff, 1, 0, 2, 0, 0, 0, 1, 0];
 
 // A PAC value, the locations and the contexts of a sink, a BASE, and what the sink answers to its stream 1.
-#[derive(Clone, Copy)]
 struct Row {
     pacs: &'static [u8],
     locations: u32,
@@ -38,7 +37,7 @@ struct Row {
     answer: Result<(), NotTaken>,
 }
 
-const ROWS: [Row; 4] = [
+static ROWS: [Row; 4] = [
     Row {
         pacs: &RECORD,
         locations: 0,

@@ -52,7 +52,6 @@ const ENCRYPTED: BigInfo = BigInfo {
 const EXT: [u8; 7] = [0x06, 0x16, 0x52, 0x18, 0x56, 0x34, 0x12];
 
 // A BASE and the numbers of a group, and what is announced of them: the periodic advertising and the additional controller data.
-#[derive(Clone, Copy)]
 struct Announced {
     base: &'static [u8],
     info: BigInfo,
@@ -60,7 +59,7 @@ struct Announced {
     acad: &'static [u8],
 }
 
-const ANNOUNCED: [Announced; 3] = [
+static ANNOUNCED: [Announced; 3] = [
     Announced {
         base: &[0x40, 0x9c, 0, 1, 1, 0xff, 1, 0, 2, 0, 0, 0, 1, 0],
         info: ONE_STREAM,

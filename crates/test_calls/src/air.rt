@@ -12,7 +12,7 @@ const LATER: BigInfo = BigInfo {
 };
 
 // An event, a subevent, and the payload number that is sent there: of the first event and of the last.
-const NUMBERS: [(u64, u8, Option<u64>); 7] = [
+static NUMBERS: [(u64, u8, Option<u64>); 7] = [
     (0, 1, Some(0)),
     (0, 2, Some(1)),
     (0, 3, Some(2)),
@@ -29,8 +29,8 @@ fn are_numbers(info: &BigInfo) -> bool {
     let Ok(group) = check_group(info) else {
         return false;
     };
-    for (event, subevent, number) in NUMBERS {
-        if 549755813888 < event || payload_of(&group, event, subevent) != number {
+    for (event, subevent, number) in &NUMBERS {
+        if 549755813888 < *event || payload_of(&group, *event, *subevent) != *number {
             return false;
         }
     }

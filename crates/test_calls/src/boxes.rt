@@ -3,16 +3,19 @@ use std::alloc::Global;
 use std::test::*;
 use unit_outlets::{FailingTally, Outlet, OutletFault, Tally, take_at};
 
-/// A box that takes each unit, and one behind it that fails at its second call.
-fn boxes(alloc: Global) -> Option<Vec<Box<dyn Outlet>>> {
+/// Puts a box that takes each unit, and one behind it that fails at its second call: whether there was memory for both.
+fn are_put(alloc: Global, boxes: &mut Vec<Box<dyn Outlet>>) -> bool {
+    let Ok(tally) = Box::new(alloc, Tally::new()) else {
+        return false;
+    };
     let mut failing = Calls::new(alloc);
-    failing.push(2).ok()?;
-    let mut boxes: Vec<Box<dyn Outlet>> = Vec::new(alloc);
-    boxes.push(Box::new(alloc, Tally::new()).ok()?).ok()?;
-    boxes
-        .push(Box::new(alloc, FailingTally::new(failing)).ok()?)
-        .ok()?;
-    Some(boxes)
+    if boxes.push(tally).is_err() || failing.push(2).is_err() {
+        return false;
+    }
+    match Box::new(alloc, FailingTally::new(failing)) {
+        Ok(tally) => boxes.push(tally).is_ok(),
+        Err(_) => false,
+    }
 }
 
 /// Whether the second of these boxes refuses its second call alone, and the first takes its own.
@@ -26,8 +29,7 @@ fn fails_once(boxes: &mut Vec<Box<dyn Outlet>>) -> bool {
 
 #[test]
 fn a_box_fails_at_its_listed_call(rt: HostRuntime) {
-    match boxes(rt.alloc()) {
-        Some(mut boxes) => assert!(rt; fails_once(&mut boxes)),
-        None => assert!(rt; false),
-    }
+    let mut boxes: Vec<Box<dyn Outlet>> = Vec::new(rt.alloc());
+    assert!(rt; are_put(rt.alloc(), &mut boxes));
+    assert!(rt; fails_once(&mut boxes));
 }

@@ -1,11 +1,10 @@
 //! Lines that are read and written.
-use bcast_base::Octets;
-use scenario_lines::{read_line, read_line_in, write_line};
+use scenario_lines::{LineFault, read_line, read_line_in, write_line};
 use scenario_text::Step;
 use std::alloc::Global;
 
-// A line of each kind, out of the worked scenarios.
-const LINES_OF_1: [&[u8]; 37] = [
+// A line of each kind, out of the worked scenarios, and lines of more words. Pairs stand in their order.
+static LINES: [&[u8]; 49] = [
     b"scenario 2",
     b"group unframed 20000 40000 8 10000 100 100 2 1 3 2 1 600 1800 1",
     b"ident 0 000000000000 1 000000",
@@ -43,9 +42,6 @@ const LINES_OF_1: [&[u8]; 37] = [
     b"control 0 030401130100",
     b"forge 0 0 -",
     b"end",
-];
-
-const LINES_OF_2: [&[u8]; 10] = [
     b"assist 0 1",
     b"apart 0 1",
     b"awrite 0 1 0200",
@@ -56,52 +52,71 @@ const LINES_OF_2: [&[u8]; 10] = [
     b"ashow 0 1",
     b"source 0",
     b"relay 0 1 1",
+    b"sink 7 31 8 517",
+    b"modify 0 255 2 0 01000000 - 06000000 0304aa",
 ];
 
-fn written(alloc: Global, line: &[u8]) -> Option<Octets> {
-    let Ok(Some(step)) = read_line_in(alloc, 2, line) else {
-        return None;
-    };
+/// What a line is to be read as: a step that is written so, or a unit of these octets.
+#[derive(Clone, Copy)]
+enum Wanted<'a> {
+    Text(&'a [u8]),
+    Unit(&'a [u8]),
+}
+
+fn is_written(alloc: Global, step: &Step, wanted: &[u8]) -> bool {
     if !step.fits() {
-        return None;
+        return false;
     }
-    write_line(alloc, &step).ok()
-}
-
-fn is_written(alloc: Global, line: &[u8], wanted: &[u8]) -> bool {
-    match &written(alloc, line) {
-        Some(text) => text.as_slice() == wanted,
-        None => false,
+    match write_line(alloc, step) {
+        Ok(text) => text.as_slice() == wanted,
+        Err(_) => false,
     }
 }
 
-// Pairs stand in their order, and digits of either case are written in lower case.
-#[test]
-fn a_line_that_is_read_is_written_back(rt: HostRuntime) {
-    for line in LINES_OF_1 {
-        assert!(rt; is_written(rt.alloc(), line, line));
-    }
-    for line in LINES_OF_2 {
-        assert!(rt; is_written(rt.alloc(), line, line));
-    }
-    let sink = b"sink 7 31 8 517";
-    assert!(rt; is_written(rt.alloc(), sink, sink));
-    let pairs = b"modify 0 255 2 0 01000000 - 06000000 0304aa";
-    assert!(rt; is_written(rt.alloc(), pairs, pairs));
-    assert!(rt; is_written(rt.alloc(), b"unit 31 60060 0A0b", b"unit 31 60060 0a0b"));
-}
-
-/// Whether a unit is read in version 1.
-fn is_unit(alloc: Global, line: &[u8], wanted: &[u8]) -> bool {
-    match &read_line(alloc, line) {
-        Ok(Some(Step::Unit { bis, time, octets })) => {
+fn is_unit(step: &Step, wanted: &[u8]) -> bool {
+    match step {
+        Step::Unit { bis, time, octets } => {
             bis.get() == 31 && *time == Some(60_060) && octets.as_slice() == wanted
         }
         _ => false,
     }
 }
 
+impl Wanted<'_> {
+    fn is_met(&self, alloc: Global, step: &Step) -> bool {
+        match self {
+            Wanted::Text(text) => is_written(alloc, step, text),
+            Wanted::Unit(octets) => is_unit(step, octets),
+        }
+    }
+}
+
+fn is_wanted(alloc: Global, read: Result<Option<Step>, LineFault>, wanted: &Wanted) -> bool {
+    match &read {
+        Ok(Some(step)) => wanted.is_met(alloc, step),
+        _ => false,
+    }
+}
+
+// Digits of either case are written in lower case.
+#[test]
+fn a_line_that_is_read_is_written_back(rt: HostRuntime) {
+    for line in &LINES {
+        assert!(rt;
+            is_wanted(
+                rt.alloc(),
+                read_line_in(rt.alloc(), 2, line),
+                &Wanted::Text(line)
+            )
+        );
+    }
+    let read = read_line_in(rt.alloc(), 2, b"unit 31 60060 0A0b");
+    assert!(rt; is_wanted(rt.alloc(), read, &Wanted::Text(b"unit 31 60060 0a0b")));
+}
+
+// A unit is read in version 1.
 #[test]
 fn a_unit_is_read_with_ample_memory(rt: HostRuntime) {
-    assert!(rt; is_unit(rt.alloc(), b"unit 31 60060 0A0b", &[0x0a, 0x0b]));
+    let read = read_line(rt.alloc(), b"unit 31 60060 0A0b");
+    assert!(rt; is_wanted(rt.alloc(), read, &Wanted::Unit(&[0x0a, 0x0b])));
 }

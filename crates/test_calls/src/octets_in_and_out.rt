@@ -1,8 +1,6 @@
 //! Sources and sinks that fail at one call and go on behind it.
 use bcast_base::{Calls, Octets};
-use bcast_io::{
-    ByteSource, Failed, LineRead, LineReader, MemorySink, MemorySource, SinkFault, write_whole,
-};
+use bcast_io::{Failed, LineRead, LineReader, MemorySink, MemorySource, SinkFault, write_whole};
 use std::alloc::Global;
 
 /// The list of this call alone.
@@ -24,15 +22,13 @@ fn fails_once(sink: &mut MemorySink) -> bool {
 
 #[test]
 fn a_memory_sink_fails_at_its_call_alone(rt: HostRuntime) {
-    let Some(calls) = calls(rt.alloc(), 3) else {
-        return assert!(rt; false);
-    };
+    let calls = calls(rt.alloc(), 3).expect(&rt, "the calls");
     let mut sink = MemorySink::new(rt.alloc(), 3, calls);
     assert!(rt; fails_once(&mut sink));
 }
 
 /// Whether the next line is this one.
-fn reads<S: ByteSource>(reader: &mut LineReader, source: &mut S, line: &[u8]) -> bool {
+fn reads(reader: &mut LineReader, source: &mut MemorySource, line: &[u8]) -> bool {
     match reader.next_line(source) {
         Ok(LineRead::Line) => reader.line() == line,
         _ => false,
@@ -50,15 +46,9 @@ fn reads_its_lines(reader: &mut LineReader, source: &mut MemorySource) -> bool {
 
 #[test]
 fn a_line_that_a_fault_cut_goes_on(rt: HostRuntime) {
-    let (Ok(octets), Some(calls)) = (
-        Octets::copy(rt.alloc(), b"one\ntwo\nthree"),
-        calls(rt.alloc(), 3),
-    ) else {
-        return assert!(rt; false);
-    };
+    let octets = Octets::copy(rt.alloc(), b"one\ntwo\nthree").expect(&rt, "the octets");
+    let calls = calls(rt.alloc(), 3).expect(&rt, "the calls");
     let mut source = MemorySource::new(octets, 3, calls);
-    let Ok(mut reader) = LineReader::new(rt.alloc()) else {
-        return assert!(rt; false);
-    };
+    let mut reader = LineReader::new(rt.alloc()).expect(&rt, "a reader");
     assert!(rt; reads_its_lines(&mut reader, &mut source));
 }

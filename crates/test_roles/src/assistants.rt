@@ -7,8 +7,13 @@ const STATE: [u8; 15] = [7, 0, 1, 2, 3, 4, 5, 6, 3, 0x0a, 0x0b, 0x0c, 2, 0, 0];
 
 /// Whether a notice of slot 1 gives its view.
 fn keeps_its_view(assistant: &mut AssistJoined) -> bool {
-    assistant.notice(1, &STATE) == Ok(NoticeTaken::View)
-        && assistant.view(1).is_some_and(|state| state.source_id == 7)
+    if assistant.notice(1, &STATE) != Ok(NoticeTaken::View) {
+        return false;
+    }
+    match assistant.view(1) {
+        Some(state) => state.source_id == 7,
+        None => false,
+    }
 }
 
 /// Whether a notice that the MTU may have cut asks for a read, of which an answer is no state.

@@ -1,6 +1,8 @@
 //! A taker that refused a unit isn't called again by the same close: of several units that wait one after the other is refused. The event
 //! is closed nevertheless, that of a sink for each of its streams.
+use crate::framed_receivers::framed_in;
 use crate::numbers::SINGLE;
+use crate::receivers::unframed_in;
 use crate::refusing::Refusing;
 use bcast_base::{Bis, BisSet};
 use big_info::{BigInfo, check_group};
@@ -84,15 +86,17 @@ fn tunes(sink: &mut GroupSink, info: &BigInfo, which: BisSet) -> bool {
 }
 
 /// The answer of a tick of a sink, which hands three units of each of two streams, all but two as lost.
-fn tick(sink: &mut GroupSink, event: u64, taker: &mut Refusing) -> Option<Result<(), TakerFault>> {
-    let (Some(first), Some(second)) = (Bis::new(1), Bis::new(2)) else {
-        return None;
-    };
+fn tick(
+    sink: &mut GroupSink,
+    streams: &[Bis; 2],
+    event: u64,
+    taker: &mut Refusing,
+) -> Option<Result<(), TakerFault>> {
     if event > 100 {
         return None;
     }
-    let _ = sink.hear(event, first, 0, &FRAGMENT);
-    let _ = sink.hear(event, second, 2, &FRAGMENT);
+    let _ = sink.hear(event, streams[0], 0, &FRAGMENT);
+    let _ = sink.hear(event, streams[1], 2, &FRAGMENT);
     Some(sink.tick(event, taker))
 }
 
@@ -108,6 +112,14 @@ fn ends_unframed(receiver: &mut UnframedIn, taker: &mut Refusing, fault: TakerFa
     true
 }
 
+/// Whether a close makes three calls, and each one that is refused ends its own, whatever the fault.
+fn ends_each_unframed(receiver: &mut UnframedIn, taker: &mut Refusing) -> bool {
+    let all = close_unframed(receiver, taker);
+    taker.took(all, 3)
+        && ends_unframed(receiver, taker, TakerFault::Failed)
+        && ends_unframed(receiver, taker, TakerFault::Memory)
+}
+
 /// Whether each of three calls, refused for this fault, is the last one of its close.
 fn ends_framed(receiver: &mut FramedIn, taker: &mut Refusing, fault: TakerFault) -> bool {
     'calls: for call in 1..4usize {
@@ -120,76 +132,75 @@ fn ends_framed(receiver: &mut FramedIn, taker: &mut Refusing, fault: TakerFault)
     true
 }
 
+/// The same of a framed receiver.
+fn ends_each_framed(receiver: &mut FramedIn, taker: &mut Refusing) -> bool {
+    let all = close_framed(receiver, taker);
+    taker.took(all, 3)
+        && ends_framed(receiver, taker, TakerFault::Failed)
+        && ends_framed(receiver, taker, TakerFault::Memory)
+}
+
 /// Whether an event is closed for both streams.
-fn is_over(sink: &mut GroupSink, event: u64) -> bool {
-    let (Some(first), Some(second)) = (Bis::new(1), Bis::new(2)) else {
-        return false;
-    };
+fn is_over(sink: &mut GroupSink, streams: &[Bis; 2], event: u64) -> bool {
     if event > 100 {
         return false;
     }
-    sink.hear(event, first, 0, &FRAGMENT) == Hearing::Heard(Heard::Late)
-        && sink.hear(event, second, 0, &FRAGMENT) == Hearing::Heard(Heard::Late)
+    sink.hear(event, streams[0], 0, &FRAGMENT) == Hearing::Heard(Heard::Late)
+        && sink.hear(event, streams[1], 0, &FRAGMENT) == Hearing::Heard(Heard::Late)
 }
 
 /// Whether each of six calls, refused for this fault, is the last one of its tick, which closes its event, from this event on.
-fn ends_tick(sink: &mut GroupSink, taker: &mut Refusing, event: u64, fault: TakerFault) -> bool {
+fn ends_tick(
+    sink: &mut GroupSink,
+    streams: &[Bis; 2],
+    event: u64,
+    taker: &mut Refusing,
+    fault: TakerFault,
+) -> bool {
     'calls: for call in 1..7usize {
         taker.refuse(call, fault);
         let over = event.saturating_add(call as u64);
-        let answer = tick(sink, over, taker);
-        if !taker.refused_last(answer) || !is_over(sink, over) {
+        let answer = tick(sink, streams, over, taker);
+        if !taker.refused_last(answer) || !is_over(sink, streams, over) {
             return false;
         }
     }
     true
 }
 
+/// The same of the ticks of a sink on one stream of framed units and two of others.
+fn ends_each_tick(sink: &mut GroupSink, taker: &mut Refusing) -> bool {
+    let (Some(first), Some(second)) = (Bis::new(1), Bis::new(2)) else {
+        return false;
+    };
+    let one = BisSet::new().with(first);
+    if !tunes(sink, &SEGMENTS, one) || !tunes(sink, &THREE_UNITS, one.with(second)) {
+        return false;
+    }
+    let streams = [first, second];
+    let all = tick(sink, &streams, 0, taker);
+    taker.took(all, 6)
+        && ends_tick(sink, &streams, 0, taker, TakerFault::Failed)
+        && ends_tick(sink, &streams, 6, taker, TakerFault::Memory)
+}
+
 #[test]
 fn a_close_of_fragments_ends_with_the_call_that_was_refused(rt: HostRuntime) {
-    assert!(rt; THREE_UNITS.fits());
-    let (Ok(group), Some(bis)) = (check_group(&THREE_UNITS), Bis::new(1)) else {
-        return assert!(rt; false);
-    };
-    let Ok(mut receiver) = UnframedIn::new(rt.alloc(), &group, bis, 0, 20000, 40000) else {
-        return assert!(rt; false);
-    };
+    let mut receiver = unframed_in(rt.alloc(), &THREE_UNITS).expect(&rt, "a receiver");
     let mut taker = Refusing::new(rt.alloc());
-    let all = close_unframed(&mut receiver, &mut taker);
-    assert!(rt; taker.took(all, 3));
-    assert!(rt; ends_unframed(&mut receiver, &mut taker, TakerFault::Failed));
-    assert!(rt; ends_unframed(&mut receiver, &mut taker, TakerFault::Memory));
+    assert!(rt; ends_each_unframed(&mut receiver, &mut taker));
 }
 
 #[test]
 fn a_close_of_segments_ends_with_the_call_that_was_refused(rt: HostRuntime) {
-    assert!(rt; SEGMENTS.fits());
-    let (Ok(group), Some(bis)) = (check_group(&SEGMENTS), Bis::new(1)) else {
-        return assert!(rt; false);
-    };
-    let Ok(mut receiver) = FramedIn::new(rt.alloc(), &group, bis, 0, 20000, 40000) else {
-        return assert!(rt; false);
-    };
+    let mut receiver = framed_in(rt.alloc(), &SEGMENTS).expect(&rt, "a receiver");
     let mut taker = Refusing::new(rt.alloc());
-    let all = close_framed(&mut receiver, &mut taker);
-    assert!(rt; taker.took(all, 3));
-    assert!(rt; ends_framed(&mut receiver, &mut taker, TakerFault::Failed));
-    assert!(rt; ends_framed(&mut receiver, &mut taker, TakerFault::Memory));
+    assert!(rt; ends_each_framed(&mut receiver, &mut taker));
 }
 
 #[test]
 fn a_tick_of_two_streams_ends_with_the_call_that_was_refused(rt: HostRuntime) {
-    let (Some(first), Some(second)) = (Bis::new(1), Bis::new(2)) else {
-        return assert!(rt; false);
-    };
-    let one = BisSet::new().with(first);
     let mut sink = GroupSink::new(rt.alloc());
-    assert!(rt;
-        tunes(&mut sink, &SEGMENTS, one) && tunes(&mut sink, &THREE_UNITS, one.with(second))
-    );
     let mut taker = Refusing::new(rt.alloc());
-    let all = tick(&mut sink, 0, &mut taker);
-    assert!(rt; taker.took(all, 6));
-    assert!(rt; ends_tick(&mut sink, &mut taker, 0, TakerFault::Failed));
-    assert!(rt; ends_tick(&mut sink, &mut taker, 6, TakerFault::Memory));
+    assert!(rt; ends_each_tick(&mut sink, &mut taker));
 }

@@ -2,13 +2,12 @@
 ghost use Rattle.std.specs.Prelude.{◌≡◌, None, IfOk, true};
 ghost use Rattle.relay_role.specs.State.Flushing.{MayTake};
 
-use crate::numbers::SINGLE;
+use crate::numbers::{SINGLE, setup_of};
 use crate::refusing::Refusing;
-use base_grammar::decode_base;
 use bcast_base::Bis;
 use big_info::{BigInfo, Limits};
 use relay_role::{DropName, DroppedUnit, Relay, RelayTaker};
-use source_machine::{Identity, Setup, SourceIdle, SourceStreaming};
+use source_machine::{SourceIdle, SourceStreaming};
 use std::alloc::Global;
 use unit_outlets::{TakerFault, UnitTaker};
 
@@ -26,14 +25,11 @@ const HALL: BigInfo = BigInfo {
     ..SINGLE
 };
 
-/// A BASE of a presentation delay of 40 ms and one stream of a codec other than LC3.
-const BASE: [u8; 14] = [0x40, 0x9c, 0, 1, 1, 0xff, 1, 0, 2, 0, 0, 0, 1, 0];
-
 /// More octets than a unit of the source may have.
 const LONG: [u8; 9] = [0; 9];
 
 /// Units of a stream: 17 at rising times, one that comes too late, and one that is too long.
-const MANY: [(u64, &[u8]); 19] = [
+static MANY: [(u64, &[u8]); 19] = [
     (1, &[1]),
     (2, &[2]),
     (3, &[3]),
@@ -62,22 +58,11 @@ fn hall(alloc: Global) -> Result<SourceStreaming, &'static str>
     ensures streams { IfOk result (λ source. source.setup.info.num_bis ≡ 2) }
     ensures ahead { IfOk result (λ source. source.setup.ahead ≡ true) }
 {
-    let Ok(base) = decode_base(alloc, &BASE) else {
-        return Err("no memory");
-    };
     if !HALL.fits() {
         return Err("too wide");
     }
-    let setup = Setup {
-        identity: Identity {
-            address_type: 0,
-            address: [0; 6],
-            sid: 1,
-            broadcast_id: [0; 3],
-        },
-        info: HALL,
-        base,
-        origin: 70000,
+    let Some(setup) = setup_of(alloc, HALL, 1, 70000) else {
+        return Err("no memory");
     };
     let Ok(configured) = SourceIdle::new(alloc).configure_within(setup, Limits::VERSION_2) else {
         return Err("no group");
@@ -164,8 +149,22 @@ fn a_relay_copies_what_its_stream_hands_and_the_taker_takes(rt: HostRuntime) {
     let mut taker = RelayTaker::new(Relay::new(rt.alloc(), one, two), refusing);
     assert!(rt; is_handed_each(&mut taker, one, two));
     let (mut relay, taken) = taker.parts();
-    assert!(rt; taken.has_counts(5, 4));
-    assert!(rt; drops_all(&mut relay, 2) && drops_all(&mut relay, 0));
+    assert!(rt; taken.has_counts(5, 4) && drops_all(&mut relay, 2) && drops_all(&mut relay, 0));
+}
+
+/// Whether a flush to a source of that group drops the last three of these units.
+fn drops_the_last(alloc: Global, relay: &mut Relay) -> bool
+    requires { relay.old.to ≡ 1 }
+{
+    let Ok(mut source) = hall(alloc) else {
+        return false;
+    };
+    let units = [
+        dropped(16, DropName::Backlog),
+        dropped(17, DropName::TimeOrder),
+        dropped(18, DropName::UnitTooLong),
+    ];
+    drops(relay, &mut source, &units)
 }
 
 #[test]
@@ -176,18 +175,5 @@ fn no_more_than_16_units_of_a_relay_wait(rt: HostRuntime) {
     let Ok(mut relay) = relay_of(rt.alloc(), one, &MANY) else {
         return assert!(rt; false);
     };
-    let Ok(mut source) = hall(rt.alloc()) else {
-        return assert!(rt; false);
-    };
-    assert!(rt;
-        drops(
-            &mut relay,
-            &mut source,
-            &[
-                dropped(16, DropName::Backlog),
-                dropped(17, DropName::TimeOrder),
-                dropped(18, DropName::UnitTooLong)
-            ]
-        )
-    );
+    assert!(rt; drops_the_last(rt.alloc(), &mut relay));
 }

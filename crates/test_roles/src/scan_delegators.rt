@@ -43,9 +43,7 @@ fn eighteen_wait(sink: &mut ScanDelegator) -> bool {
 
 #[test]
 fn eighteen_notices_wait_at_a_delegator(rt: HostRuntime) {
-    let Ok(mut sink) = ScanDelegator::new(rt.alloc(), 1, 1) else {
-        return assert!(rt; false);
-    };
+    let mut sink = ScanDelegator::new(rt.alloc(), 1, 1).expect(&rt, "a delegator");
     assert!(rt; eighteen_wait(&mut sink));
 }
 

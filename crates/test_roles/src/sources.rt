@@ -1,11 +1,10 @@
 ghost use Rattle.std.specs.Prelude.{◌≡◌, ◌<◌, ◌^◌, None, IfOk};
 ghost use Rattle.big_info.specs.Widths.{FitsWidths};
 
-use crate::numbers::SINGLE;
-use base_grammar::decode_base;
+use crate::numbers::{SINGLE, setup_of};
 use bcast_base::Bis;
 use big_info::BigInfo;
-use source_machine::{Identity, Setup, SourceIdle, SourceStreaming};
+use source_machine::{SourceIdle, SourceStreaming};
 use std::alloc::Global;
 
 /// One unit of 4 octets every 10 ms on LE 2M, sent twice.
@@ -16,28 +15,14 @@ const TWICE: BigInfo = BigInfo {
     ..SINGLE
 };
 
-/// A BASE of a presentation delay of 40 ms and one stream of a codec other than LC3.
-const BASE: [u8; 14] = [0x40, 0x9c, 0, 1, 1, 0xff, 1, 0, 2, 0, 0, 0, 1, 0];
-
 /// The source of a group that is not encrypted, from this event on; or none where the group or memory is wanting.
 fn streaming(alloc: Global, info: BigInfo, first: u64) -> Result<SourceStreaming, &'static str>
     requires widths { FitsWidths info }
     requires first { first < 2 ^ 39 }
     ensures { IfOk result (λ source. source.cipher ≡ info.cipher) }
 {
-    let Ok(base) = decode_base(alloc, &BASE) else {
+    let Some(setup) = setup_of(alloc, info, 0, 20000) else {
         return Err("no memory");
-    };
-    let setup = Setup {
-        identity: Identity {
-            address_type: 0,
-            address: [0; 6],
-            sid: 0,
-            broadcast_id: [0x56, 0x34, 0x12],
-        },
-        info,
-        base,
-        origin: 20000,
     };
     let Ok(configured) = SourceIdle::new(alloc).configure(setup) else {
         return Err("no group");
@@ -63,6 +48,18 @@ fn sends_twice(source: &mut SourceStreaming, pdu: &[u8]) -> bool
     }
 }
 
+/// Whether a unit is taken and sent twice in the next event, that of number 3.
+fn sends_its_unit(source: &mut SourceStreaming, one: Bis) -> bool
+    requires { source.old.cipher ≡ None }
+{
+    if source.give(one, None, &[0xC0]).is_err() {
+        return false;
+    }
+    sends_twice(source, &[0x00, 0x01, 0xC0])
+        && source.next_event() == 4
+        && source.next_anchor() == 30000
+}
+
 #[test]
 fn a_source_sends_each_pdu_at_its_place(rt: HostRuntime) {
     assert!(rt; TWICE.fits());
@@ -72,8 +69,6 @@ fn a_source_sends_each_pdu_at_its_place(rt: HostRuntime) {
     let Ok(mut source) = streaming(rt.alloc(), TWICE, 3) else {
         return assert!(rt; false);
     };
-    assert!(rt; source.give(one, None, &[0xC0]).is_ok());
-    assert!(rt; sends_twice(&mut source, &[0x00, 0x01, 0xC0]));
-    assert!(rt; source.next_event() == 4 && source.next_anchor() == 30000);
+    assert!(rt; sends_its_unit(&mut source, one));
     let _ = source.stop().release();
 }

@@ -3,38 +3,13 @@ ghost use Rattle.big_info.specs.Widths.{FitsWidths};
 ghost use Rattle.source_machine.specs.Calls.{Call, Setup as Fixed};
 ghost use Rattle.multi_source.specs.State.Fields.{HasOwnAir, IsPlain, Sending, begun_of, source_of};
 
-use crate::numbers::SINGLE;
-use base_grammar::decode_base;
+use crate::numbers::{SINGLE, setup_of};
 use bcast_base::Bis;
 use big_info::{BigInfo, Limits};
 use multi_source::{Field, FieldFault};
 use radio_schedule::AirFault;
-use source_machine::{EventFault, Identity, Setup, StaleList};
+use source_machine::{EventFault, StaleList};
 use std::alloc::Global;
-
-/// A BASE of a presentation delay of 40 ms and one stream of a codec other than LC3.
-const BASE: [u8; 14] = [0x40, 0x9c, 0, 1, 1, 0xff, 1, 0, 2, 0, 0, 0, 1, 0];
-
-/// A setup with this advertising SID.
-fn setup(alloc: Global, info: BigInfo, sid: u8) -> Result<Setup, &'static str>
-    ensures info { IfOk result (λ setup. setup.info ≡ info) }
-    ensures origin { IfOk result (λ setup. setup.origin ≡ 20000) }
-{
-    let Ok(base) = decode_base(alloc, &BASE) else {
-        return Err("no memory");
-    };
-    Ok(Setup {
-        identity: Identity {
-            address_type: 0,
-            address: [sid; 6],
-            sid,
-            broadcast_id: [0x56, 0x34, 0x12],
-        },
-        info,
-        base,
-        origin: 20000,
-    })
-}
 
 /// Two sources that weren't started.
 fn idle(alloc: Global) -> Field
@@ -44,14 +19,12 @@ fn idle(alloc: Global) -> Field
     Field::new(alloc)
 }
 
-/// Starts a source whose group is not encrypted, at event 0.
-fn starts(field: &mut Field, s: u8, setup: Setup) -> Result<(), FieldFault>
+/// Starts a source of this group, which is not encrypted, with this advertising SID, at event 0.
+fn starts(field: &mut Field, s: u8, alloc: Global, info: BigInfo, sid: u8) -> Result<(), FieldFault>
     requires number { s ≤ 1 }
     requires unbegun { begun_of field.old s ≡ None }
-    requires widths { FitsWidths setup.info }
-    requires plain { setup.info.cipher ≡ None }
-    requires least { 3000 ≤ setup.origin }
-    requires greatest { setup.origin ≤ 2 ^ 48 }
+    requires widths { FitsWidths info }
+    requires plain { info.cipher ≡ None }
     ensures own_air { OnOk result (HasOwnAir (source_of field.new s) (begun_of field.new s)) }
     ensures plain { OnOk result (IsPlain (source_of field.new s)) }
     ensures begun { OnOk result (is_some (begun_of field.new s) ≡ true) }
@@ -61,31 +34,34 @@ fn starts(field: &mut Field, s: u8, setup: Setup) -> Result<(), FieldFault>
     ensures other_begun { OnOk result (begun_of field.new (1 - s) ≡ begun_of field.old (1 - s)) }
     ensures err { OnErr result (field.new ≡ field.old) }
 {
+    let Some(setup) = setup_of(alloc, info, sid, 20000) else {
+        return Err(FieldFault::Memory);
+    };
     field.start(s, setup, Limits::VERSION_2, 0)
 }
 
-/// Two sources of which the second one was refused first, since it had the SID of the first one.
-fn both(alloc: Global, info: BigInfo) -> Result<Field, &'static str>
+/// Starts both sources, of which the second one is refused first, since it has the SID of the first one.
+fn both_start(field: &mut Field, alloc: Global, info: BigInfo) -> Result<(), &'static str>
+    requires first { begun_of field.old 0 ≡ None }
+    requires second { begun_of field.old 1 ≡ None }
     requires widths { FitsWidths info }
     requires plain { info.cipher ≡ None }
-    ensures own_air { IfOk result (λ field. HasOwnAir (source_of field 0) (begun_of field 0)) }
-    ensures plain { IfOk result (λ field. IsPlain (source_of field 0)) }
-    ensures second { IfOk result (λ field. is_some (begun_of field 1) ≡ true) }
-    ensures sending { IfOk result (λ field. (fixed : Fixed) × (calls : List Call)
-        × Sending fixed calls (source_of field 0) (begun_of field 0)) }
+    ensures own_air { OnOk result (HasOwnAir (source_of field.new 0) (begun_of field.new 0)) }
+    ensures plain { OnOk result (IsPlain (source_of field.new 0)) }
+    ensures second { OnOk result (is_some (begun_of field.new 1) ≡ true) }
+    ensures sending { OnOk result ((fixed : Fixed) × (calls : List Call)
+        × Sending fixed calls (source_of field.new 0) (begun_of field.new 0)) }
 {
-    let mut field = idle(alloc);
-    if starts(&mut field, 0, setup(alloc, info, 1)?).is_err() {
+    let Ok(()) = starts(field, 0, alloc, info, 1) else {
         return Err("no first source");
-    }
-    match starts(&mut field, 1, setup(alloc, info, 1)?) {
-        Err(FieldFault::IdentTwice) => {}
-        _ => return Err("no refusal"),
-    }
-    if starts(&mut field, 1, setup(alloc, info, 2)?).is_err() {
+    };
+    let Err(FieldFault::IdentTwice) = starts(field, 1, alloc, info, 1) else {
+        return Err("no refusal");
+    };
+    let Ok(()) = starts(field, 1, alloc, info, 2) else {
         return Err("no second source");
-    }
-    Ok(field)
+    };
+    Ok(())
 }
 
 /// Performs the next event of source 0.
@@ -100,25 +76,52 @@ fn performs(field: &mut Field) -> Result<StaleList, EventFault>
     field.event(0)
 }
 
+/// Whether source 0, which was stopped after its next event, has that event on its air, and source 1 none.
+fn is_heard_once_stopped(field: &mut Field, one: Bis) -> bool
+    requires own_air { HasOwnAir (source_of field.old 0) (begun_of field.old 0) }
+    requires plain { IsPlain (source_of field.old 0) }
+    requires second { is_some (begun_of field.old 1) ≡ true }
+    requires sending { (fixed : Fixed) × (calls : List Call) × Sending fixed calls (source_of field.old 0) (begun_of field.old 0) }
+{
+    let Ok(_) = performs(field) else {
+        return false;
+    };
+    field.stop(0);
+    let Ok(pdu) = field.heard_at(0, 0, one, 0) else {
+        return false;
+    };
+    pdu == [0x01, 0x00].as_slice()
+        && field.heard_at(1, 0, one, 0) == Err(AirFault::NotOnAir)
+        && field.source(0).is_none()
+}
+
+/// The same behind the start of both.
+fn is_heard_beside_the_other(field: &mut Field, alloc: Global, info: BigInfo) -> bool
+    requires first { begun_of field.old 0 ≡ None }
+    requires second { begun_of field.old 1 ≡ None }
+    requires widths { FitsWidths info }
+    requires plain { info.cipher ≡ None }
+{
+    let Some(one) = Bis::new(1) else {
+        return false;
+    };
+    let Ok(()) = both_start(field, alloc, info) else {
+        return false;
+    };
+    is_heard_once_stopped(field, one)
+}
+
+/// Whether a sink that is put on source 0 is of it, and another is of none.
+fn keeps_its_sink(field: &mut Field) -> bool {
+    field.put(7, 0);
+    field.of(7) == Some(0) && field.of(6).is_none()
+}
+
 #[test]
 fn a_source_that_was_stopped_is_still_heard_beside_the_other(rt: HostRuntime) {
     assert!(rt; SINGLE.fits());
-    let Some(one) = Bis::new(1) else {
-        return assert!(rt; false);
-    };
-    let Ok(mut field) = both(rt.alloc(), SINGLE) else {
-        return assert!(rt; false);
-    };
-    let Ok(_) = performs(&mut field) else {
-        return assert!(rt; false);
-    };
-    field.stop(0);
-    match field.heard_at(0, 0, one, 0) {
-        Ok(pdu) => assert!(rt; pdu == [0x01, 0x00].as_slice()),
-        Err(_) => assert!(rt; false),
-    }
-    assert!(rt; field.heard_at(1, 0, one, 0) == Err(AirFault::NotOnAir));
-    assert!(rt; field.source(0).is_none());
-    field.put(7, 0);
-    assert!(rt; field.of(7) == Some(0) && field.of(6).is_none());
+    let mut field = idle(rt.alloc());
+    assert!(rt;
+        is_heard_beside_the_other(&mut field, rt.alloc(), SINGLE) && keeps_its_sink(&mut field)
+    );
 }

@@ -1,17 +1,16 @@
 //! Fewer boxes than the sinks take.
 
-use crate::running::{Ended, Kind, Run, ends_so};
+use crate::running::{Ended, Kind, Run, ends_so, put_tally};
 use std::alloc::Global;
-use unit_outlets::{Outlet, Tally};
+use unit_outlets::Outlet;
 
 /// A run with so many boxes, fewer than its sinks take.
-#[derive(Clone, Copy)]
 struct Few {
     boxes: usize,
     run: Run,
 }
 
-const FEW: [Few; 3] = [
+static FEW: [Few; 3] = [
     Few {
         boxes: 0,
         run: Run {
@@ -41,26 +40,20 @@ const FEW: [Few; 3] = [
     },
 ];
 
-/// So many boxes.
-fn tallies(alloc: Global, count: usize) -> Option<Vec<Box<dyn Outlet>>> {
-    let mut outlets: Vec<Box<dyn Outlet>> = Vec::new(alloc);
-    'boxes: for _ in 0..count {
-        outlets.push(Box::new(alloc, Tally::new()).ok()?).ok()?;
-    }
-    Some(outlets)
-}
-
 /// Whether a run with too few boxes ends so.
 fn lacks_a_box(alloc: Global, few: &Few) -> bool {
-    match tallies(alloc, few.boxes) {
-        Some(mut outlets) => ends_so(alloc, &few.run, &mut outlets),
-        None => false,
+    let mut outlets: Vec<Box<dyn Outlet>> = Vec::new(alloc);
+    'boxes: for _ in 0..few.boxes {
+        if !put_tally(alloc, &mut outlets) {
+            return false;
+        }
     }
+    ends_so(alloc, &few.run, &mut outlets)
 }
 
 #[test]
 fn a_sink_that_finds_no_box_is_refused(rt: HostRuntime) {
-    for few in FEW {
-        assert!(rt; lacks_a_box(rt.alloc(), &few));
+    for few in &FEW {
+        assert!(rt; lacks_a_box(rt.alloc(), few));
     }
 }

@@ -16,7 +16,6 @@ const TEXT: &str =
     "scenario 1\ngroup unframed 20000 40000 8 10000 4 4 1 1 1 1 0 0 0 1\nsink 0 1 1\nstart 0\ntuned 0 1\nunit 1 - 0a0b0c\nevent\nhear 0 0 1 0\nevent\nend\n";
 
 /// What is refused: the read of this number, from 1, or the first write or unit, for this fault.
-#[derive(Clone, Copy)]
 enum Refused {
     Nothing,
     Read(u64),
@@ -25,7 +24,6 @@ enum Refused {
 }
 
 /// What is run, what is refused, how the run ends, how many reads are made, and how many units the box has then.
-#[derive(Clone, Copy)]
 struct Run {
     name: &'static str,
     kind: Kind,
@@ -36,7 +34,7 @@ struct Run {
     units: u64,
 }
 
-const RUNS: [Run; 14] = [
+static RUNS: [Run; 14] = [
     Run {
         name: "to its end",
         kind: Kind::Lines,
@@ -178,9 +176,9 @@ struct WatchedSource {
 }
 
 impl WatchedSource {
-    fn new(text: &'static str, refused: Refused) -> WatchedSource {
+    fn new(text: &'static str, refused: &Refused) -> WatchedSource {
         let fails_at = match refused {
-            Refused::Read(call) => call,
+            Refused::Read(call) => *call,
             _ => 0,
         };
         WatchedSource {
@@ -241,9 +239,9 @@ struct WatchedSink {
 }
 
 impl WatchedSink {
-    fn new(refused: Refused) -> WatchedSink {
+    fn new(refused: &Refused) -> WatchedSink {
         let refuses = match refused {
-            Refused::Write(fault) => Some(fault),
+            Refused::Write(fault) => Some(*fault),
             _ => None,
         };
         WatchedSink { refuses, calls: 0 }
@@ -270,6 +268,21 @@ struct WatchedBox {
     calls: u64,
     units: u64,
     octets: u64,
+}
+
+impl WatchedBox {
+    fn new(refused: &Refused) -> WatchedBox {
+        let refuses = match refused {
+            Refused::Take(fault) => Some(*fault),
+            _ => None,
+        };
+        WatchedBox {
+            refuses,
+            calls: 0,
+            units: 0,
+            octets: 0,
+        }
+    }
 }
 
 impl Outlet for WatchedBox {
@@ -309,23 +322,6 @@ impl Outlet for WatchedBox {
     }
 }
 
-/// The list of one watched box.
-fn boxes(alloc: Global, refused: Refused) -> Option<Vec<Box<dyn Outlet>>> {
-    let refuses = match refused {
-        Refused::Take(fault) => Some(fault),
-        _ => None,
-    };
-    let watched = WatchedBox {
-        refuses,
-        calls: 0,
-        units: 0,
-        octets: 0,
-    };
-    let mut outlets: Vec<Box<dyn Outlet>> = Vec::new(alloc);
-    outlets.push(Box::new(alloc, watched).ok()?).ok()?;
-    Some(outlets)
-}
-
 /// Whether the only box took so many units.
 fn has_units(outlets: &Vec<Box<dyn Outlet>>, units: u64) -> bool {
     match outlets.as_slice() {
@@ -336,8 +332,8 @@ fn has_units(outlets: &Vec<Box<dyn Outlet>>, units: u64) -> bool {
 
 /// Whether a run over these boxes ends as it is to, calls what it is to call, and nothing behind that.
 fn ends_into(alloc: Global, run: &Run, outlets: &mut Vec<Box<dyn Outlet>>) -> bool {
-    let mut source = WatchedSource::new(run.text, run.refused);
-    let mut sink = WatchedSink::new(run.refused);
+    let mut source = WatchedSource::new(run.text, &run.refused);
+    let mut sink = WatchedSink::new(&run.refused);
     let ended = run_with(alloc, run.kind, &mut source, &mut sink, outlets);
     ended == run.ended
         && source.reads == run.reads
@@ -346,17 +342,18 @@ fn ends_into(alloc: Global, run: &Run, outlets: &mut Vec<Box<dyn Outlet>>) -> bo
         && has_units(outlets, run.units)
 }
 
-/// The same with boxes of its own.
+/// The same with a box of its own.
 fn ends_so(alloc: Global, run: &Run) -> bool {
-    let Some(mut outlets) = boxes(alloc, run.refused) else {
-        return false;
-    };
-    ends_into(alloc, run, &mut outlets)
+    let mut outlets: Vec<Box<dyn Outlet>> = Vec::new(alloc);
+    match Box::new(alloc, WatchedBox::new(&run.refused)) {
+        Ok(watched) => outlets.push(watched).is_ok() && ends_into(alloc, run, &mut outlets),
+        Err(_) => false,
+    }
 }
 
 #[test]
 fn each_run_reads_what_its_end_needs_and_calls_nothing_that_refused(rt: HostRuntime) {
-    for run in RUNS {
-        assert!(rt; ends_so(rt.alloc(), &run), "{}", run.name);
+    for run in &RUNS {
+        assert!(rt; ends_so(rt.alloc(), run), "{}", run.name);
     }
 }

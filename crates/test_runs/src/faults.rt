@@ -1,10 +1,10 @@
 //! Each call of the outside fails in turn, in a whole life of a sink.
 
-use crate::running::{Ended, Kind, Run, ends_so, run_with};
+use crate::running::{Ended, Kind, Run, ends_so, is_listed, put_failing, put_tally, run_with};
 use bcast_base::{Calls, Octets};
 use bcast_io::{MemorySink, MemorySource};
 use std::alloc::Global;
-use unit_outlets::{FailingTally, Outlet, Tally};
+use unit_outlets::Outlet;
 
 /// A source is announced, added, followed, heard, ended and removed.
 const WHOLE_LIFE: &str =
@@ -16,7 +16,7 @@ const WHOLE_LIFE_TRANSCRIPT: &str =
 
 /// Sink 0 relays a stream of source 0 to one of source 1 that takes no unit of more than two octets, and sink 1 hears the stream too. The
 /// box of sink 1 refuses its unit; what comes before that is written.
-const DROPPED: Run = Run {
+static DROPPED: Run = Run {
     kind: Kind::Lines,
     text: "scenario 2\ngroup unframed 20000 40000 8 10000 4 4 1 1 1 1 0 0 0 1\nsource 1\ngroup framed 70000 40000 8 10884 2 10 1 2 2 1 0 400 0 1\nident 0 000000000000 1 000000\nstart 0\nsource 0\nstart 0\nsink 0 1 1\nsink 1 1 1\ntuned 0 1\ntuned 1 1\nrelay 0 1 1\nunit 1 - aabbcc\nevent\nair 0 0\nair 1 0\nevent\nevent\nend\n",
     ended: Ended::OutletFault,
@@ -34,34 +34,6 @@ enum Failing {
     Takes,
 }
 
-/// The calls that are to fail: this one where `fails`, and else none.
-fn calls_failing(alloc: Global, fails: bool, call: u64) -> Option<Calls> {
-    let mut calls = Calls::new(alloc);
-    if fails {
-        calls.push(call).ok()?;
-    }
-    Some(calls)
-}
-
-/// The boxes of a run whose only sink takes one that fails at these calls.
-fn failing_box(alloc: Global, takes: Calls) -> Option<Vec<Box<dyn Outlet>>> {
-    let mut outlets: Vec<Box<dyn Outlet>> = Vec::new(alloc);
-    outlets
-        .push(Box::new(alloc, FailingTally::new(takes)).ok()?)
-        .ok()?;
-    Some(outlets)
-}
-
-/// The same behind a box that fails never.
-fn second_failing_box(alloc: Global, takes: Calls) -> Option<Vec<Box<dyn Outlet>>> {
-    let mut outlets: Vec<Box<dyn Outlet>> = Vec::new(alloc);
-    outlets.push(Box::new(alloc, Tally::new()).ok()?).ok()?;
-    outlets
-        .push(Box::new(alloc, FailingTally::new(takes)).ok()?)
-        .ok()?;
-    Some(outlets)
-}
-
 /// Whether a run may end so with what was written: a prefix of the transcript, and all of it at the end.
 fn may_end(ended: Ended, written: &[u8]) -> bool {
     let transcript = WHOLE_LIFE_TRANSCRIPT.as_bytes();
@@ -72,26 +44,48 @@ fn may_end(ended: Ended, written: &[u8]) -> bool {
     }
 }
 
-/// How the whole life ends where this call fails, by the source and the sink. `None` where something else was written.
+/// How the whole life ends between a source and a sink. `None` where something else was written.
+fn end_between(
+    alloc: Global,
+    source: &mut MemorySource,
+    sink: &mut MemorySink,
+    outlets: &mut Vec<Box<dyn Outlet>>,
+) -> Option<Ended> {
+    let ended = run_with(alloc, Kind::Lines, source, sink, outlets);
+    if may_end(ended, sink.taken()) {
+        Some(ended)
+    } else {
+        None
+    }
+}
+
+/// The same where this call fails, by the source and the sink.
 fn end_into(
     alloc: Global,
     failing: Failing,
     call: u64,
     outlets: &mut Vec<Box<dyn Outlet>>,
 ) -> Option<Ended> {
-    let reads = calls_failing(alloc, failing == Failing::Reads, call)?;
-    let writes = calls_failing(alloc, failing == Failing::Writes, call)?;
-    let octets = Octets::copy(alloc, WHOLE_LIFE.as_bytes()).ok()?;
+    let mut octets = Octets::new(alloc);
+    let mut reads = Calls::new(alloc);
+    let mut writes = Calls::new(alloc);
+    if octets.append(WHOLE_LIFE.as_bytes()).is_err()
+        || !is_listed(&mut reads, failing == Failing::Reads, call)
+        || !is_listed(&mut writes, failing == Failing::Writes, call)
+    {
+        return None;
+    }
     let mut source = MemorySource::new(octets, 64, reads);
     let mut sink = MemorySink::new(alloc, 16, writes);
-    let ended = run_with(alloc, Kind::Lines, &mut source, &mut sink, outlets);
-    may_end(ended, sink.taken()).then_some(ended)
+    end_between(alloc, &mut source, &mut sink, outlets)
 }
 
 /// The same, by the box too.
 fn end_of(alloc: Global, failing: Failing, call: u64) -> Option<Ended> {
-    let takes = calls_failing(alloc, failing == Failing::Takes, call)?;
-    let mut outlets = failing_box(alloc, takes)?;
+    let mut outlets: Vec<Box<dyn Outlet>> = Vec::new(alloc);
+    if !put_failing(alloc, &mut outlets, failing == Failing::Takes, call) {
+        return None;
+    }
     end_into(alloc, failing, call, &mut outlets)
 }
 
@@ -109,20 +103,19 @@ fn each_ends_with(alloc: Global, failing: Failing, end: Ended) -> bool {
 
 #[test]
 fn each_call_that_fails_is_a_fault_of_its_own(rt: HostRuntime) {
-    assert!(rt; each_ends_with(rt.alloc(), Failing::Reads, Ended::ReadFault));
-    assert!(rt; each_ends_with(rt.alloc(), Failing::Writes, Ended::WriteFault));
-    assert!(rt; each_ends_with(rt.alloc(), Failing::Takes, Ended::OutletFault));
+    assert!(rt;
+        each_ends_with(rt.alloc(), Failing::Reads, Ended::ReadFault)
+            && each_ends_with(rt.alloc(), Failing::Writes, Ended::WriteFault)
+            && each_ends_with(rt.alloc(), Failing::Takes, Ended::OutletFault)
+    );
 }
 
 /// Whether the unit of sink 1 is refused behind what the relay dropped.
 fn is_refused_behind_the_relay(alloc: Global) -> bool {
-    let Some(takes) = calls_failing(alloc, true, 1) else {
-        return false;
-    };
-    match second_failing_box(alloc, takes) {
-        Some(mut outlets) => ends_so(alloc, &DROPPED, &mut outlets),
-        None => false,
-    }
+    let mut outlets: Vec<Box<dyn Outlet>> = Vec::new(alloc);
+    put_tally(alloc, &mut outlets)
+        && put_failing(alloc, &mut outlets, true, 1)
+        && ends_so(alloc, &DROPPED, &mut outlets)
 }
 
 #[test]

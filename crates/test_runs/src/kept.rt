@@ -2,17 +2,16 @@
 
 ghost use Rattle.std.specs.Prelude.{◌-◌, ◌^◌, false};
 
-use crate::running::{Ended, Kind, Run, ends_so};
-use bcast_base::Calls;
+use crate::running::{Ended, Kind, Run, ends_so, put_failing};
 use std::alloc::Global;
 use std::test::*;
-use unit_outlets::{FailingTally, LastUnits, Outlet, OutletFault};
+use unit_outlets::{LastUnits, Outlet, OutletFault};
 
 /// How many units the box keeps.
 const KEPT: usize = 2;
 
 /// The units that it is given, over all runs.
-const UNITS: [&[u8]; 5] = [
+static UNITS: [&[u8]; 5] = [
     &[0xaa],
     &[0xbb, 0xbb],
     &[0xcc, 0xcc, 0xcc],
@@ -21,7 +20,7 @@ const UNITS: [&[u8]; 5] = [
 ];
 
 /// The second box refuses its first unit behind the third unit of the first box; a line is refused behind the fourth; the last run ends.
-const RUNS: [Run; 3] = [
+static RUNS: [Run; 3] = [
     Run {
         kind: Kind::Lines,
         text: "scenario 1\ngroup unframed 20000 40000 8 10000 4 4 1 1 1 1 0 0 0 1\nsink 0 1 1\nsink 1 1 1\nstart 0\ntuned 0 1\nunit 1 - aa\nevent\nhear 0 0 1 0\nunit 1 - bbbb\nevent\nhear 0 0 1 0\ntuned 1 1\nunit 1 - cccccc\nevent\nhear 0 0 1 0\nhear 1 0 1 0\nend\n",
@@ -54,11 +53,8 @@ impl ComparedBox {
         if i >= KEPT {
             return None;
         }
-        let place = usize::try_from(self.last.units())
-            .ok()?
-            .checked_sub(i)?
-            .checked_sub(1)?;
-        UNITS.get(place).copied()
+        let place = self.last.units().checked_sub(i as u64 + 1)?;
+        UNITS.get(place as usize).copied()
     }
 
     /// Whether it keeps these, and no other.
@@ -100,28 +96,25 @@ impl Outlet for ComparedBox {
     }
 }
 
-/// That box, and one that refuses its first unit.
-fn boxes(alloc: Global) -> Option<Vec<Box<dyn Outlet>>> {
-    let last = LastUnits::new(alloc, KEPT).ok()?;
-    let mut takes = Calls::new(alloc);
-    takes.push(1).ok()?;
-    let mut outlets: Vec<Box<dyn Outlet>> = Vec::new(alloc);
-    outlets
-        .push(Box::new(alloc, ComparedBox { last }).ok()?)
-        .ok()?;
-    outlets
-        .push(Box::new(alloc, FailingTally::new(takes)).ok()?)
-        .ok()?;
-    Some(outlets)
+/// Puts that box, and one that refuses its first unit.
+fn are_put(alloc: Global, outlets: &mut Vec<Box<dyn Outlet>>) -> bool {
+    let Ok(last) = LastUnits::new(alloc, KEPT) else {
+        return false;
+    };
+    let Ok(compared) = Box::new(alloc, ComparedBox { last }) else {
+        return false;
+    };
+    outlets.push(compared).is_ok() && put_failing(alloc, outlets, true, 1)
 }
 
 /// Whether each run ends so, over the boxes of the one before.
 fn each_ends_so(alloc: Global) -> bool {
-    let Some(mut outlets) = boxes(alloc) else {
+    let mut outlets: Vec<Box<dyn Outlet>> = Vec::new(alloc);
+    if !are_put(alloc, &mut outlets) {
         return false;
-    };
-    'runs: for run in RUNS {
-        if !ends_so(alloc, &run, &mut outlets) {
+    }
+    'runs: for run in &RUNS {
+        if !ends_so(alloc, run, &mut outlets) {
             return false;
         }
     }

@@ -24,21 +24,30 @@ impl ByteSource for Counting {
     }
 }
 
-/// A comment of 8,191 octets, without its end.
-fn long_comment(alloc: Global) -> Option<Octets> {
-    let mut line = Octets::copy(alloc, b"#").ok()?;
-    'octets: for _ in 0..8_190 {
-        line.push(b'x').ok()?;
+/// Puts a comment of 8,191 octets, without its end, behind these: whether there was memory for it.
+fn put_comment(line: &mut Octets) -> bool {
+    if line.push(b'#').is_err() {
+        return false;
     }
-    Some(line)
+    'octets: for _ in 0..8_190 {
+        if line.push(b'x').is_err() {
+            return false;
+        }
+    }
+    true
 }
 
 /// How often a text of such lines, which has no end, is read, so many octets a call, until the run refuses them so.
 fn reads_of(alloc: Global, kind: Kind, piece: usize, refused: &str) -> Option<u64>
     requires { 1 ≤ piece }
 {
-    let mut line = long_comment(alloc)?;
-    line.push(b'\n').ok()?;
+    let mut line = Octets::new(alloc);
+    if !put_comment(&mut line) {
+        return None;
+    }
+    let Ok(()) = line.push(b'\n') else {
+        return None;
+    };
     let mut source = Counting {
         source: EndlessSource::new(line, piece),
         reads: 0,
@@ -46,7 +55,11 @@ fn reads_of(alloc: Global, kind: Kind, piece: usize, refused: &str) -> Option<u6
     let mut sink = FaithfulSink::new(alloc);
     let mut outlets: Vec<Box<dyn Outlet>> = Vec::new(alloc);
     let ended = run_with(alloc, kind, &mut source, &mut sink, &mut outlets);
-    (ended == Ended::Refused && sink.taken() == refused.as_bytes()).then_some(source.reads)
+    if ended == Ended::Refused && sink.taken() == refused.as_bytes() {
+        Some(source.reads)
+    } else {
+        None
+    }
 }
 
 #[test]

@@ -1,14 +1,12 @@
 //! A run of each kind, and how it ended.
 
-ghost use Rattle.std.specs.Prelude.{◌≤◌};
-
-use bcast_base::Octets;
+use bcast_base::{Calls, Octets};
 use bcast_io::{ByteSink, ByteSource, FaithfulSink, FaithfulSource};
 use replay_generated::{Outcome, run_generated};
 use replay_lines::{Cause, Ending, run_text, run_toml};
 use replay_migration::{Migration, run_migration};
 use std::alloc::Global;
-use unit_outlets::Outlet;
+use unit_outlets::{FailingTally, Outlet, Tally};
 
 /// What is run.
 #[derive(Clone, Copy)]
@@ -88,16 +86,37 @@ pub fn run_with<S: ByteSource, K: ByteSink>(
     }
 }
 
-/// A source that gives a text, so many octets a call.
-pub fn text_source(alloc: Global, text: &str, piece: usize) -> Option<FaithfulSource>
-    requires { 1 ≤ piece }
-{
-    let octets = Octets::copy(alloc, text.as_bytes()).ok()?;
-    Some(FaithfulSource::new(octets, piece))
+/// Puts a box that takes each unit behind the others: whether there was memory for it.
+pub fn put_tally(alloc: Global, outlets: &mut Vec<Box<dyn Outlet>>) -> bool {
+    match Box::new(alloc, Tally::new()) {
+        Ok(tally) => outlets.push(tally).is_ok(),
+        Err(_) => false,
+    }
+}
+
+/// Lists this call where it is to fail: whether there was memory for it.
+pub fn is_listed(calls: &mut Calls, fails: bool, call: u64) -> bool {
+    !fails || calls.push(call).is_ok()
+}
+
+/// Puts a box behind the others that fails at this call, or never where it isn't to fail.
+pub fn put_failing(
+    alloc: Global,
+    outlets: &mut Vec<Box<dyn Outlet>>,
+    fails: bool,
+    call: u64,
+) -> bool {
+    let mut takes = Calls::new(alloc);
+    if !is_listed(&mut takes, fails, call) {
+        return false;
+    }
+    match Box::new(alloc, FailingTally::new(takes)) {
+        Ok(tally) => outlets.push(tally).is_ok(),
+        Err(_) => false,
+    }
 }
 
 /// A run: its kind and its text, how it ends, and what it writes.
-#[derive(Clone, Copy)]
 pub struct Run {
     pub kind: Kind,
     pub text: &'static str,
@@ -107,9 +126,10 @@ pub struct Run {
 
 /// Whether a run over these boxes ends so.
 pub fn ends_so(alloc: Global, run: &Run, outlets: &mut Vec<Box<dyn Outlet>>) -> bool {
-    let Some(mut source) = text_source(alloc, run.text, 64) else {
+    let Ok(octets) = Octets::copy(alloc, run.text.as_bytes()) else {
         return false;
     };
+    let mut source = FaithfulSource::new(octets, 64);
     let mut sink = FaithfulSink::new(alloc);
     let ended = run_with(alloc, run.kind, &mut source, &mut sink, outlets);
     ended == run.ended && sink.taken() == run.transcript.as_bytes()

@@ -1,5 +1,6 @@
 //! BASEs of one stream with its location and contexts.
 use crate::bluez::{Meaning, Vector};
+use ltv_codec::Config;
 
 pub(super) static LOCATED: [Vector; 4] = [
     // base_lc3_16_2_1
@@ -11,10 +12,13 @@ pub(super) static LOCATED: [Vector; 4] = [
         means: Meaning {
             delay: 40000,
             streams: 1,
-            frequency: Some(3),
-            duration: Some(1),
-            allocation: Some(1),
-            frame_octets: Some(40),
+            config: Config {
+                frequency: Some(3),
+                duration: Some(1),
+                allocation: Some(1),
+                frame_octets: Some(40),
+                blocks: None,
+            },
             contexts: Some(2),
         },
     },
@@ -27,10 +31,13 @@ pub(super) static LOCATED: [Vector; 4] = [
         means: Meaning {
             delay: 10000,
             streams: 1,
-            frequency: Some(8),
-            duration: Some(1),
-            allocation: Some(1),
-            frame_octets: Some(100),
+            config: Config {
+                frequency: Some(8),
+                duration: Some(1),
+                allocation: Some(1),
+                frame_octets: Some(100),
+                blocks: None,
+            },
             contexts: Some(2),
         },
     },
@@ -43,10 +50,13 @@ pub(super) static LOCATED: [Vector; 4] = [
         means: Meaning {
             delay: 10000,
             streams: 1,
-            frequency: Some(8),
-            duration: Some(0),
-            allocation: Some(1),
-            frame_octets: Some(90),
+            config: Config {
+                frequency: Some(8),
+                duration: Some(0),
+                allocation: Some(1),
+                frame_octets: Some(90),
+                blocks: None,
+            },
             contexts: Some(2),
         },
     },
@@ -59,10 +69,13 @@ pub(super) static LOCATED: [Vector; 4] = [
         means: Meaning {
             delay: 40,
             streams: 1,
-            frequency: Some(3),
-            duration: Some(1),
-            allocation: Some(3),
-            frame_octets: Some(40),
+            config: Config {
+                frequency: Some(3),
+                duration: Some(1),
+                allocation: Some(3),
+                frame_octets: Some(40),
+                blocks: None,
+            },
             contexts: Some(2),
         },
     },

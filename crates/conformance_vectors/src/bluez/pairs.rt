@@ -10,7 +10,7 @@ pub(super) static PAIRS: [Pair; 13] = [
         two: &[
             0x40, 0x9c, 0, 1, 2, 6, 0, 0, 0, 0, 0xa, 2, 1, 1, 2, 2, 0, 3, 4, 0x1a, 0, 0, 1, 0, 2, 0,
         ],
-        values: Some((1, 0, 26)),
+        values: (Some(1), Some(0), Some(26)),
     },
     // BASE_LC3_8_2 and BASE_LC3_8_2_MBIS
     Pair {
@@ -20,7 +20,7 @@ pub(super) static PAIRS: [Pair; 13] = [
         two: &[
             0x40, 0x9c, 0, 1, 2, 6, 0, 0, 0, 0, 0xa, 2, 1, 1, 2, 2, 1, 3, 4, 0x1e, 0, 0, 1, 0, 2, 0,
         ],
-        values: Some((1, 1, 30)),
+        values: (Some(1), Some(1), Some(30)),
     },
     // BASE_LC3_16_1 and BASE_LC3_16_1_MBIS
     Pair {
@@ -30,7 +30,7 @@ pub(super) static PAIRS: [Pair; 13] = [
         two: &[
             0x40, 0x9c, 0, 1, 2, 6, 0, 0, 0, 0, 0xa, 2, 1, 3, 2, 2, 0, 3, 4, 0x1e, 0, 0, 1, 0, 2, 0,
         ],
-        values: Some((3, 0, 30)),
+        values: (Some(3), Some(0), Some(30)),
     },
     // BASE_LC3_24_1 and BASE_LC3_24_1_MBIS
     Pair {
@@ -40,7 +40,7 @@ pub(super) static PAIRS: [Pair; 13] = [
         two: &[
             0x40, 0x9c, 0, 1, 2, 6, 0, 0, 0, 0, 0xa, 2, 1, 5, 2, 2, 0, 3, 4, 0x2d, 0, 0, 1, 0, 2, 0,
         ],
-        values: Some((5, 0, 45)),
+        values: (Some(5), Some(0), Some(45)),
     },
     // BASE_LC3_24_2 and BASE_LC3_24_2_MBIS
     Pair {
@@ -50,7 +50,7 @@ pub(super) static PAIRS: [Pair; 13] = [
         two: &[
             0x40, 0x9c, 0, 1, 2, 6, 0, 0, 0, 0, 0xa, 2, 1, 5, 2, 2, 1, 3, 4, 0x3c, 0, 0, 1, 0, 2, 0,
         ],
-        values: Some((5, 1, 60)),
+        values: (Some(5), Some(1), Some(60)),
     },
     // BASE_LC3_32_1 and BASE_LC3_32_1_MBIS
     Pair {
@@ -60,7 +60,7 @@ pub(super) static PAIRS: [Pair; 13] = [
         two: &[
             0x40, 0x9c, 0, 1, 2, 6, 0, 0, 0, 0, 0xa, 2, 1, 6, 2, 2, 0, 3, 4, 0x3c, 0, 0, 1, 0, 2, 0,
         ],
-        values: Some((6, 0, 60)),
+        values: (Some(6), Some(0), Some(60)),
     },
     // BASE_LC3_44_1 and BASE_LC3_44_1_MBIS
     Pair {
@@ -70,7 +70,7 @@ pub(super) static PAIRS: [Pair; 13] = [
         two: &[
             0x40, 0x9c, 0, 1, 2, 6, 0, 0, 0, 0, 0xa, 2, 1, 7, 2, 2, 0, 3, 4, 0x62, 0, 0, 1, 0, 2, 0,
         ],
-        values: Some((7, 0, 98)),
+        values: (Some(7), Some(0), Some(98)),
     },
     // BASE_LC3_44_2 and BASE_LC3_44_2_MBIS
     Pair {
@@ -80,7 +80,7 @@ pub(super) static PAIRS: [Pair; 13] = [
         two: &[
             0x40, 0x9c, 0, 1, 2, 6, 0, 0, 0, 0, 0xa, 2, 1, 7, 2, 2, 1, 3, 4, 0x82, 0, 0, 1, 0, 2, 0,
         ],
-        values: Some((7, 1, 130)),
+        values: (Some(7), Some(1), Some(130)),
     },
     // BASE_LC3_48_1 and BASE_LC3_48_1_MBIS
     Pair {
@@ -90,7 +90,7 @@ pub(super) static PAIRS: [Pair; 13] = [
         two: &[
             0x40, 0x9c, 0, 1, 2, 6, 0, 0, 0, 0, 0xa, 2, 1, 8, 2, 2, 0, 3, 4, 0x4b, 0, 0, 1, 0, 2, 0,
         ],
-        values: Some((8, 0, 75)),
+        values: (Some(8), Some(0), Some(75)),
     },
     // BASE_LC3_48_3 and BASE_LC3_48_3_MBIS
     Pair {
@@ -100,7 +100,7 @@ pub(super) static PAIRS: [Pair; 13] = [
         two: &[
             0x40, 0x9c, 0, 1, 2, 6, 0, 0, 0, 0, 0xa, 2, 1, 8, 2, 2, 0, 3, 4, 0x5a, 0, 0, 1, 0, 2, 0,
         ],
-        values: Some((8, 0, 90)),
+        values: (Some(8), Some(0), Some(90)),
     },
     // BASE_LC3_48_4 and BASE_LC3_48_4_MBIS
     Pair {
@@ -110,7 +110,7 @@ pub(super) static PAIRS: [Pair; 13] = [
         two: &[
             0x40, 0x9c, 0, 1, 2, 6, 0, 0, 0, 0, 0xa, 2, 1, 8, 2, 2, 1, 3, 4, 0x78, 0, 0, 1, 0, 2, 0,
         ],
-        values: Some((8, 1, 120)),
+        values: (Some(8), Some(1), Some(120)),
     },
     // BASE_LC3_48_5 and BASE_LC3_48_5_MBIS
     Pair {
@@ -120,7 +120,7 @@ pub(super) static PAIRS: [Pair; 13] = [
         two: &[
             0x40, 0x9c, 0, 1, 2, 6, 0, 0, 0, 0, 0xa, 2, 1, 8, 2, 2, 0, 3, 4, 0x75, 0, 0, 1, 0, 2, 0,
         ],
-        values: Some((8, 0, 117)),
+        values: (Some(8), Some(0), Some(117)),
     },
     // BASE_VS and BASE_VS_MBIS
     Pair {
@@ -132,6 +132,6 @@ pub(super) static PAIRS: [Pair; 13] = [
             0x40, 0x9c, 0, 1, 2, 0xff, 0, 0, 0, 0, 0x10, 2, 1, 8, 2, 2, 0, 5, 3, 1, 0, 0, 0, 3, 4,
             0x75, 0, 0, 1, 0, 2, 0,
         ],
-        values: None,
+        values: (None, None, None),
     },
 ];

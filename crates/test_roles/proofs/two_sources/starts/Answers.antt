@@ -1,4 +1,5 @@
-use Rattle.std.proofs.Common.{◌∙◌}
+use Rattle.std.proofs.Common.{◌∙◌, ap}
+use Rattle.big_info.specs.declared.info.BigInfo.{BigInfo}
 use Rattle.test_roles.proofs.TwoSources.{has_own_air, is_plain, on_ok, stands}
 use Rattle.test_roles.proofs.two_sources.starts.Goals as goal
 
@@ -8,7 +9,7 @@ returns-clause-own_air c = on_ok c.start.result c.start.ensures.ok
 
 pub returns-clause-plain : goal.returns-clause-plain
 returns-clause-plain c = on_ok c.start.result c.start.ensures.ok
-    (λ at. is_plain _ at.sending.source at.sending.source_is (at.cipher ∙ c.requires.plain))
+    (λ at. is_plain _ at.sending.source at.sending.source_is (at.cipher ∙ ap (λ (info : BigInfo). info.cipher) c.in-Some.ensures.info ∙ c.requires.plain))
 
 pub returns-clause-begun : goal.returns-clause-begun
 returns-clause-begun c = on_ok c.start.result c.start.ensures.ok (λ at. stands _ at.sending.begun at.sending.begun_is)
