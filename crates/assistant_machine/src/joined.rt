@@ -340,19 +340,10 @@ impl AssistJoined {
         ensures err { OnErr result (self.new ≡ self.old) }
     {
         let view = view_in(self.alloc, &mut self.spare, value)?;
-        self.set_view(place, view);
-        Ok(())
-    }
-
-    /// Sets the view of a slot. The memory of the earlier one is kept for the next.
-    fn set_view(&mut self, place: usize, view: Option<ReceiveState>)
-        requires here { place < length self.old.views }
-        requires encoded { IsEncodedView view }
-        ensures { self.new ≡ record self.old { views = slice_set self.old.views place view } }
-    {
         if let Some(earlier) = replace(&mut self.views[place], view) {
             self.spare = earlier.groups;
         }
+        Ok(())
     }
 }
 
