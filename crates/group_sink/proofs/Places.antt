@@ -36,7 +36,7 @@ there : {X : Type 0} (f : ℕ → X) (xs ys : List ℕ) (bis : ℕ) → slice_ge
 there f [] ys bis = refl
 there f (x ∷ xs) ys bis = there f xs ys bis
 
-pub past : {X : Type 0} (xs : List X) (n : ℕ) → length xs ≤ n → slice_get xs n ≡ None
+past : {X : Type 0} (xs : List X) (n : ℕ) → length xs ≤ n → slice_get xs n ≡ None
 past [] n short = refl
 past (x ∷ xs) zero short = absurd (omega (arith, short))
 past (x ∷ xs) (suc n) short = past xs n (omega (arith, short))

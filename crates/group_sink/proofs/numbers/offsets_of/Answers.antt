@@ -1,4 +1,4 @@
-use Rattle.group_sink.proofs.Prelude.{refl, length-set, ◌∙◌, arith, payload_number}
+use Rattle.group_sink.proofs.Prelude.{length-set, ◌∙◌, arith, payload_number}
 use Rattle.group_sink.proofs.Offsets.{entry_set}
 use Rattle.group_sink.proofs.numbers.offsets_of.Goals as goal
 
@@ -12,9 +12,3 @@ subevents-preserved c = record {
 
 pub bounds-offsets-from : goal.bounds-offsets-from
 bounds-offsets-from c = omega (arith, c.from.ensures, c.subevents-test.true, c.args.group.now.widths.nse)
-
-pub subevents-init : goal.subevents-init
-subevents-init c = record { size = refl; done = λ s below. absurd (omega (arith, below)) }
-
-pub returns : goal.returns
-returns c s below = c.subevents.invariant.done s (omega (arith, below, c.subevents-test.false))
