@@ -29,16 +29,10 @@ returns-in_err-put-clause-stands c = λ setup calls stands.
 
 pub returns-in_err-put-clause-err : goal.returns-in_err-put-clause-err
 returns-in_err-put-clause-err c =
-    let before : Halves = c.args.from.now in
-    let now : Halves = c.notices.from in
-    let next : Halves = c.next_notice.new.self in
     let p = err_from_is_err_and c.from_residual.result c.from_residual.ensures.1 in
-    rw p.1 (subst (StopsShort before.scan next.scan (linked c.args.self.now)) (sym c.in_err-put.ensures.err)
-    (stops before.scan now.scan next.scan (linked c.args.self.now) (linked c.notices.self) c.in-Some.notice c.notices.invariant.gathered (sym c.in-Some.ensures.notice) (ap (λ (d : Halves). d.scan) c.next_notice.ensures.step)))
+    rw p.1 (subst (StopsShort c.args.from.now.scan c.next_notice.new.self.scan (linked c.args.self.now)) (sym c.in_err-put.ensures.err)
+    (stops _ c.notices.from.scan _ _ (linked c.notices.self) c.in-Some.notice c.notices.invariant.gathered (sym c.in-Some.ensures.notice) (ap (λ (d : Halves). d.scan) c.next_notice.ensures.step)))
 
 pub returns-clause-ok : goal.returns-clause-ok
 returns-clause-ok c =
-    let before : Halves = c.args.from.now in
-    let now : Halves = c.notices.from in
-    let next : Halves = c.next_notice.new.self in
-    ends before.scan now.scan next.scan (linked c.args.self.now) (linked c.notices.self) c.notices.invariant.gathered (sym c.in_default.ensures.notice) (ap (λ (d : Halves). d.scan) c.next_notice.ensures.step)
+    ends _ c.notices.from.scan _ _ (linked c.notices.self) c.notices.invariant.gathered (sym c.in_default.ensures.notice) (ap (λ (d : Halves). d.scan) c.next_notice.ensures.step)
