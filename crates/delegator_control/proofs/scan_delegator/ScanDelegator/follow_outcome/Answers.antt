@@ -1,10 +1,7 @@
-use Rattle.delegator_control.proofs.Prelude.{◌<◌, ◌∙◌, ap, sym, subst, done_by_outcome, Machine, machine, moved, arith}
+use Rattle.delegator_control.proofs.Prelude.{◌<◌, ◌∙◌, ap, sym, subst, Machine, machine, arith}
 use Rattle.delegator_choices.specs.State.Brings.{outcome_of}
-use Rattle.delegator_history.specs.Trains.{answer_of}
-use Rattle.delegator_control.specs.Following.{is_followed}
 use Rattle.delegator_control.proofs.Followed.{IsNear, is_near, slot_of_outcome}
 use Rattle.delegator_control.proofs.Standing.{moved_nothing}
-use Rattle.delegator_control.proofs.Wanting.{on_any_err}
 use Rattle.delegator_control.proofs.scan_delegator.ScanDelegator.follow_outcome.Goals as goal
 
 pub returns-in-Ignored-clause-step : goal.returns-in-Ignored-clause-step
@@ -33,18 +30,3 @@ pub go_on_group-requires-clause-near : goal.go_on_group-requires-clause-near
 go_on_group-requires-clause-near c =
     let m : Machine = machine c.args.self.now in
     (is_near m.setup m.snapshot c.requires.train c.in-Taken.slot (ap slot_of_outcome (sym c.requires.is) ∙ ap (λ b. slot_of_outcome (outcome_of b)) c.in-Taken.is)).near
-
-pub returns-in_ok-go_on_train-in-Heard-clause-answer : goal.returns-in_ok-go_on_train-in-Heard-clause-answer
-returns-in_ok-go_on_train-in-Heard-clause-answer c = ap (λ b. answer_of (outcome_of b)) (sym c.in-Heard.is)
-
-pub returns-in_ok-go_on_train-in-Heard-clause-step : goal.returns-in_ok-go_on_train-in-Heard-clause-step
-returns-in_ok-go_on_train-in-Heard-clause-step c = c.in_ok-go_on_train-in-Heard.ensures.step ∙ ap (λ b. moved (done_by_outcome (outcome_of b)) (machine c.args.self.now)) (sym c.in-Heard.is)
-
-pub returns-in_err-go_on_train-in-Heard-clause-memory : goal.returns-in_err-go_on_train-in-Heard-clause-memory
-returns-in_err-go_on_train-in-Heard-clause-memory c = on_any_err _ (ap (λ b. is_followed (outcome_of b)) c.in-Heard.is)
-
-pub returns-in_ok-go_on_group-in-Taken-clause-step : goal.returns-in_ok-go_on_group-in-Taken-clause-step
-returns-in_ok-go_on_group-in-Taken-clause-step c = c.in_ok-go_on_group-in-Taken.ensures.step ∙ ap (λ b. moved (done_by_outcome (outcome_of b)) (machine c.args.self.now)) (sym c.in-Taken.is)
-
-pub returns-in_err-go_on_group-in-Taken-clause-memory : goal.returns-in_err-go_on_group-in-Taken-clause-memory
-returns-in_err-go_on_group-in-Taken-clause-memory c = on_any_err _ (ap (λ b. is_followed (outcome_of b)) c.in-Taken.is)

@@ -1,25 +1,18 @@
-use Rattle.delegator_control.proofs.Prelude.{◌≡◌, ◌<◌, ◌∙◌, length, get_or, ap, sym, subst, Some, None, get_or_read_under, Snapshot, entry_at, slot_of, modified, place_given, placed, value_at, held_slot, Machine, machine, place_by, written_value}
+use Rattle.delegator_control.proofs.Prelude.{◌≡◌, ◌<◌, ◌∙◌, length, get_or, ap, sym, subst, Some, None, get_or_read_under, Snapshot, entry_at, slot_of, modified, place_given, placed, value_at, held_slot, Machine, machine, place_by, written_value, arith}
 use Rattle.delegator_choices.specs.State.Slots.{entry}
 use Rattle.delegator_control.proofs.Changes.{moves_below, none_some}
 use Rattle.delegator_control.proofs.Serving.{wanted_by, modify_refused, modify_accepted, puts_no, puts_yes, same_rest}
 use Rattle.delegator_control.proofs.scan_delegator.ScanDelegator.modify_held.Goals as goal
 
 pub unreachable-requires : goal.unreachable-requires
-unreachable-requires c =
-    let m : Machine = machine c.args.self.now in
-    let below : c.from.result < m.setup.slots = subst (λ k. k < m.setup.slots) (sym c.from.ensures) c.requires.within in
-    let read : c.index.result.now ≡ get_or m.snapshot.slots c.args.slot None =
-    get_or_read_under m.snapshot.slots c.from.result m.setup.slots c.index.result.now None c.index.ensures below c.args.self.now.slots.ok.0 ∙ ap (λ k. get_or m.snapshot.slots k None) c.from.ensures in
-    let held = held_slot c.args.modify.source_id m.snapshot.slots c.args.slot c.requires.found in
-    none_some held.0 (sym c.in_default.is ∙ read ∙ held.1)
+unreachable-requires c = grind (arith, machine, length, get_or, get_or_read_under, held_slot, none_some)
 
 pub returns-then-not-fits : goal.returns-then-not-fits
 returns-then-not-fits c =
     let m : Machine = machine c.args.self.now in
     let there : c.args.slot < length m.snapshot.slots = subst (λ n. c.args.slot < n) c.args.self.now.slots.ok.0 c.requires.within in
     let below : c.from.result < m.setup.slots = subst (λ k. k < m.setup.slots) (sym c.from.ensures) c.requires.within in
-    let read : c.index.result.now ≡ get_or m.snapshot.slots c.args.slot None =
-    get_or_read_under m.snapshot.slots c.from.result m.setup.slots c.index.result.now None c.index.ensures below c.args.self.now.slots.ok.0 ∙ ap (λ k. get_or m.snapshot.slots k None) c.from.ensures in
+    let read : c.index.result.now ≡ get_or m.snapshot.slots c.args.slot None = grind (arith, get_or_read_under, get_or) in
     let held : entry_at m.snapshot.slots c.args.slot ≡ Some c.in-Some.held = sym read ∙ c.in-Some.is in
     let filled : c.new-filled.result ≡ record c.in-Some.held { wanted = wanted_by c.args.modify } =
     c.new-filled.ensures ∙ ap (λ source. entry source c.args.modify.pa_sync c.args.modify.wishes) c.source.ensures.same in
@@ -35,8 +28,7 @@ returns c =
     let m : Machine = machine c.args.self.now in
     let there : c.args.slot < length m.snapshot.slots = subst (λ n. c.args.slot < n) c.args.self.now.slots.ok.0 c.requires.within in
     let below : c.from.result < m.setup.slots = subst (λ k. k < m.setup.slots) (sym c.from.ensures) c.requires.within in
-    let read : c.index.result.now ≡ get_or m.snapshot.slots c.args.slot None =
-    get_or_read_under m.snapshot.slots c.from.result m.setup.slots c.index.result.now None c.index.ensures below c.args.self.now.slots.ok.0 ∙ ap (λ k. get_or m.snapshot.slots k None) c.from.ensures in
+    let read : c.index.result.now ≡ get_or m.snapshot.slots c.args.slot None = grind (arith, get_or_read_under, get_or) in
     let held : entry_at m.snapshot.slots c.args.slot ≡ Some c.in-Some.held = sym read ∙ c.in-Some.is in
     let filled : c.new-filled.result ≡ record c.in-Some.held { wanted = wanted_by c.args.modify } =
     c.new-filled.ensures ∙ ap (λ source. entry source c.args.modify.pa_sync c.args.modify.wishes) c.source.ensures.same in
@@ -46,8 +38,7 @@ returns c =
     let mid : Machine = machine c.put.new.self in
     modify_accepted m _ c.args.modify c.args.slot c.in-Some.held c.move_wanted-moves.result c.new-filled.result c.put.new.self.slots.items c.put.new.self.waiting.items
     c.requires.found c.requires.within there held same filled puts.0
-    (ap (λ (s : Snapshot). record mid { snapshot = s }) (c.make_move.ensures mid.snapshot)
-    ∙ ap (λ (a : Machine). record a { snapshot = placed (place_by a.snapshot.place c.move_wanted-moves.result) None None a.snapshot }) c.in_ok-fits.ensures.rest)
+    (grind (arith, placed, place_by))
     puts.1 puts.2
 
 pub invariant_of-self-2 : goal.invariant_of-self-2
