@@ -1,5 +1,6 @@
-use Rattle.delegator_control.proofs.Prelude.{◌≡◌, ◌<◌, ◌∙◌, sym, subst, Some, on_ok_weaker, append-nil, slot_of, Machine, machine, status_seen, arith}
+use Rattle.delegator_control.proofs.Prelude.{◌≡◌, ◌<◌, ◌∙◌, ap, sym, subst, Some, is_some, on_ok_weaker, on_err_weaker, append-nil, slot_of, Machine, machine, status_seen, arith}
 use Rattle.delegator_control.proofs.Changes.{moved_none, note_done}
+use Rattle.delegator_control.proofs.Wanting.{on_any_err}
 use Rattle.delegator_control.proofs.scan_delegator.ScanDelegator.note_move.Goals as goal
 
 pub returns-in_default-clause-ok : goal.returns-in_default-clause-ok
@@ -18,3 +19,9 @@ returns-clause-ok c =
           (c.status_after-before.ensures.same m.snapshot) (c.status_after-after.ensures.same m.snapshot)) i;
     })
     c.note_standing.ensures.ok
+
+pub returns-clause-err : goal.returns-clause-err
+returns-clause-err c = on_err_weaker c.note_standing.result (λ same. λ i. record (machine c.args.self.now) { waiting = same i }) c.note_standing.ensures.err
+
+pub returns-clause-memory : goal.returns-clause-memory
+returns-clause-memory c = on_any_err c.note_standing.result (ap is_some (sym c.slot.ensures ∙ c.in-Some.is))
