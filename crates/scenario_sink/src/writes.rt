@@ -31,12 +31,12 @@ impl LinkedSink {
 
     /// `add`, `modify`, `remove` and `code`: puts an operation behind the writes that wait on link 0 (Broadcast Audio Scan Service
     /// 1.0, section 3.1.1).
-    pub(crate) fn operate(&mut self, op: &Operation) -> Result<(), Stop>
-        requires { MetadataFits (wishes_of op.now) }
+    pub(crate) fn operate(&mut self, op: Operation) -> Result<(), Stop>
+        requires { MetadataFits (wishes_of op) }
         ensures { (history : SinkHistory) → IsSink history self.old
-            → Quietly None (Unit {0}) history (stayed (asked 0 (encoding op.now) ∷ history.calls_made) history) self.new result }
+            → Quietly None (Unit {0}) history (stayed (asked 0 (encoding op) ∷ history.calls_made) history) self.new result }
     {
-        let octets = encode_operation(self.alloc, op)?;
+        let octets = encode_operation(self.alloc, &op)?;
         self.put_write(0, octets)?;
         Ok(())
     }
