@@ -35,8 +35,19 @@ impl LinkedSink {
             Step::AWrite { link, octets, .. } => self.write(link, octets),
             Step::Add { op, .. } => self.operate(Operation::Add(op)),
             Step::Modify { op, .. } => self.operate(Operation::Modify(op)),
-            other => self.lent_line(&other, origin, text),
+            other => self.spend_line(other, origin, text),
         }
+    }
+
+    /// The same of a line of which nothing is kept, and which is given away.
+    fn spend_line(&mut self, step: Step, origin: Origin, text: &mut Octets) -> Result<(), Stop>
+        requires range { IsInRange step }
+        requires line { IsSinkLine step }
+        requires lent { IsLent step }
+        ensures { (source : Source) (history : SinkHistory) → IsFrom origin source → IsSink history self.old
+            → LineMakes source step history text.old text.new self.new result }
+    {
+        self.lent_line(&step, origin, text)
     }
 
     /// The same of a line of which nothing is kept.
