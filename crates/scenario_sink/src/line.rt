@@ -35,32 +35,21 @@ impl LinkedSink {
             Step::AWrite { link, octets, .. } => self.write(link, octets),
             Step::Add { op, .. } => self.operate(Operation::Add(op)),
             Step::Modify { op, .. } => self.operate(Operation::Modify(op)),
-            other => self.spend_line(other, origin, text),
+            other => self.lent_line(other, origin, text),
         }
     }
 
-    /// The same of a line of which nothing is kept, and which is given away.
-    fn spend_line(&mut self, step: Step, origin: Origin, text: &mut Octets) -> Result<(), Stop>
+    /// The same of a line of which nothing is kept.
+    fn lent_line(&mut self, step: Step, origin: Origin, text: &mut Octets) -> Result<(), Stop>
         requires range { IsInRange step }
         requires line { IsSinkLine step }
         requires lent { IsLent step }
         ensures { (source : Source) (history : SinkHistory) → IsFrom origin source → IsSink history self.old
             → LineMakes source step history text.old text.new self.new result }
     {
-        self.lent_line(&step, origin, text)
-    }
-
-    /// The same of a line of which nothing is kept.
-    fn lent_line(&mut self, step: &Step, origin: Origin, text: &mut Octets) -> Result<(), Stop>
-        requires range { IsInRange step.now }
-        requires line { IsSinkLine step.now }
-        requires lent { IsLent step.now }
-        ensures { (source : Source) (history : SinkHistory) → IsFrom origin source → IsSink history self.old
-            → LineMakes source step.now history text.old text.new self.new result }
-    {
         match step {
-            Step::Locate { bits, .. } => self.locate(*bits),
-            Step::Context { sink_bits, .. } => self.context(*sink_bits),
+            Step::Locate { bits, .. } => self.locate(bits),
+            Step::Context { sink_bits, .. } => self.context(sink_bits),
             Step::Train {
                 sink,
                 time,
@@ -68,44 +57,39 @@ impl LinkedSink {
                 adv,
                 acad,
             } => self.train(
-                *sink,
+                sink,
                 origin,
-                *time,
+                time,
                 ext.as_slice(),
                 adv.as_slice(),
                 acad.as_slice(),
                 text,
             ),
-            Step::Remove { source_id, .. } => self.operate(Operation::Remove {
-                source_id: *source_id,
-            }),
+            Step::Remove { source_id, .. } => self.operate(Operation::Remove { source_id }),
             Step::Code {
                 source_id,
                 code,
                 ..
-            } => self.operate(Operation::Code {
-                source_id: *source_id,
-                code: *code,
-            }),
-            Step::Show { sink } => self.show(*sink, text),
-            Step::Lose { sink } => self.lose(*sink, text),
-            Step::Control { sink, octets } => self.control(*sink, octets.as_slice(), text),
+            } => self.operate(Operation::Code { source_id, code }),
+            Step::Show { sink } => self.show(sink, text),
+            Step::Lose { sink } => self.lose(sink, text),
+            Step::Control { sink, octets } => self.control(sink, octets.as_slice(), text),
             Step::Forge { sink, slot, octets } => {
-                self.forge(*sink, *slot, octets.as_slice(), text)
+                self.forge(sink, slot, octets.as_slice(), text)
             }
-            Step::Assist { link, .. } => self.assist(*link),
-            Step::Apart { link, .. } => self.apart(*link),
-            _ => self.link_line(step, text),
+            Step::Assist { link, .. } => self.assist(link),
+            Step::Apart { link, .. } => self.apart(link),
+            other => self.link_line(other, text),
         }
     }
 
     /// The same of a line of what waits on a link or is known there.
-    fn link_line(&mut self, step: &Step, text: &mut Octets) -> Result<(), Stop>
-        requires { IsLinkLine step.now }
+    fn link_line(&mut self, step: Step, text: &mut Octets) -> Result<(), Stop>
+        requires { IsLinkLine step }
         ensures { (source : Source) (history : SinkHistory) → IsSink history self.old
-            → LineMakes source step.now history text.old text.new self.new result }
+            → LineMakes source step history text.old text.new self.new result }
     {
-        match *step {
+        match step {
             Step::Serve { sink } => self.serve(0, Label::Plain { sink }, text),
             Step::Tell { sink } => self.tell(0, Label::Plain { sink }, text),
             Step::Read { sink } => self.read(0, Label::Plain { sink }, text),

@@ -40,5 +40,5 @@ returns-in-Add c source history from lives = does_so source c.args.step _ histor
 pub returns-in-Modify : goal.returns-in-Modify
 returns-in-Modify c source history from lives = does_so source c.args.step _ history c.args.text.now c.operate-in-Modify.new.self c.operate-in-Modify.result c.in-Modify.is refl (c.operate-in-Modify.ensures history lives)
 
-pub spend_line-requires-clause-lent : goal.spend_line-requires-clause-lent
-spend_line-requires-clause-lent c = of_lent c.args.step (grind arith)
+pub lent_line-requires-clause-lent : goal.lent_line-requires-clause-lent
+lent_line-requires-clause-lent c = of_lent c.args.step (grind arith)
