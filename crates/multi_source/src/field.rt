@@ -198,9 +198,9 @@ impl Field {
         ensures others { OthersStay s self.old self.new }
     {
         if s == 0 {
-            self.one = None;
+            clear(&mut self.one);
         } else {
-            self.other = None;
+            clear(&mut self.other);
         }
     }
 
@@ -230,13 +230,32 @@ impl Field {
         ensures others { OthersStay s self.old self.new }
     {
         if s == 0 {
-            self.one = Some(source);
-            self.one_begun = Some(begun);
+            fill(&mut self.one, &mut self.one_begun, source, begun);
         } else {
-            self.other = Some(source);
-            self.other_begun = Some(begun);
+            fill(&mut self.other, &mut self.other_begun, source, begun);
         }
     }
+}
+
+/// Takes a source from its place.
+fn clear(place: &mut Option<SourceStreaming>)
+    ensures { place.new ≡ None }
+{
+    *place = None;
+}
+
+/// Puts a source in its place, and what it sent beside it.
+fn fill(
+    place: &mut Option<SourceStreaming>,
+    since: &mut Option<Begun>,
+    source: SourceStreaming,
+    begun: Begun,
+)
+    ensures source { place.new ≡ Some source }
+    ensures begun { since.new ≡ Some begun }
+{
+    *place = Some(source);
+    *since = Some(begun);
 }
 
 /// Performs the next event of a source and puts it on its air.
