@@ -110,11 +110,7 @@ impl Field {
             Ok(configured) => configured,
             Err(kept) => return Err(field_fault(kept.fault)),
         };
-        let twin = if s == 0 {
-            &self.other_begun
-        } else {
-            &self.one_begun
-        };
+        let twin = self.since(1 - s);
         if is_twin(identity, twin) {
             return Err(FieldFault::IdentTwice);
         }
@@ -178,12 +174,7 @@ impl Field {
         ensures err { IfErr result (λ fault. (begun : HeardSince) → begun_of self.now s ≡ Some begun
             → fault_at begun.air back bis subevent ≡ Some fault) }
     {
-        let begun = if s == 0 {
-            &self.one_begun
-        } else {
-            &self.other_begun
-        };
-        match begun {
+        match self.since(s) {
             Some(begun) => begun.air.heard_at(back, bis, subevent),
             None => Err(AirFault::NotOnAir),
         }
@@ -220,6 +211,17 @@ impl Field {
         ensures { sink_of self.now sink ≡ Some result }
     {
         self.sinks[usize::from(sink)]
+    }
+
+    /// Who a source is and what it sent, since its start.
+    fn since(&self, s: u8) -> &Option<Begun>
+        ensures { result.now ≡ begun_of self.now s }
+    {
+        if s == 0 {
+            &self.one_begun
+        } else {
+            &self.other_begun
+        }
     }
 
     /// Puts a source in its place.
