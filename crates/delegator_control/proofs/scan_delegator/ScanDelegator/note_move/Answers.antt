@@ -14,9 +14,8 @@ returns-clause-ok c =
     on_ok_weaker c.note_standing.result
     (λ put. λ i. record m {
       waiting = (put ∙ note_done m.setup.slots c.in-Some.slot c.from.result m.snapshot m.waiting c.args.moves c.index-held.result.now
-          (status_seen c.status_after-before.result) (status_seen c.status_after-after.result)
-          is within (subst (λ n. c.in-Some.slot < n) c.args.self.now.slots.ok.0 within) c.from.ensures c.index-held.ensures
-          (c.status_after-before.ensures.same m.snapshot) (c.status_after-after.ensures.same m.snapshot)) i;
+          (status_seen c.status_after-before.result) (status_seen c.status_after-after.result) is within (subst (λ n. c.in-Some.slot < n) c.args.self.now.slots.ok.0 within)
+          c.from.ensures c.index-held.ensures (c.status_after-before.ensures.same m.snapshot) (c.status_after-after.ensures.same m.snapshot)) i;
     })
     c.note_standing.ensures.ok
 

@@ -9,22 +9,19 @@ use Rattle.multi_assist.proofs.links.Links.gather.Goals as goal
 pub notices-preserved : goal.notices-preserved
 notices-preserved c =
     let before : Halves = c.args.from.now in
-    let now : Halves = c.notices.from in
     let next : Halves = c.next_notice.new.self in
     let step = c.next_notice.ensures.step in
     record {
-      gathered = given_on before.scan now.scan next.scan (linked c.args.self.now) (linked c.notices.self) (linked c.put.new.self)
+      gathered = given_on before.scan c.notices.from.scan next.scan (linked c.args.self.now) (linked c.notices.self) (linked c.put.new.self)
           c.in-Some.notice c.notices.invariant.gathered (sym c.in-Some.ensures.notice) (ap (λ (d : Halves). d.scan) step) c.in_ok-put.ensures.ok;
       terms = c.put.ensures.terms ∙ c.notices.invariant.terms;
-      stands = λ setup calls stands.
-          let so = c.notices.invariant.stands setup calls stands in
+      stands = λ setup calls stands. let so = c.notices.invariant.stands setup calls stands in
           (suc so.0, c.next_notice.ensures.stands setup (asked so.0 calls) so.1);
       receivers = ap (λ (d : Halves). d.sink) step ∙ c.notices.invariant.receivers;
     }
 
 pub returns-in_err-put-clause-stands : goal.returns-in_err-put-clause-stands
-returns-in_err-put-clause-stands c = λ setup calls stands.
-    let so = c.notices.invariant.stands setup calls stands in
+returns-in_err-put-clause-stands c = λ setup calls stands. let so = c.notices.invariant.stands setup calls stands in
     (suc so.0, c.next_notice.ensures.stands setup (asked so.0 calls) so.1)
 
 pub returns-in_err-put-clause-err : goal.returns-in_err-put-clause-err
@@ -34,5 +31,4 @@ returns-in_err-put-clause-err c =
     (stops _ c.notices.from.scan _ _ (linked c.notices.self) c.in-Some.notice c.notices.invariant.gathered (sym c.in-Some.ensures.notice) (ap (λ (d : Halves). d.scan) c.next_notice.ensures.step)))
 
 pub returns-clause-ok : goal.returns-clause-ok
-returns-clause-ok c =
-    ends _ c.notices.from.scan _ _ (linked c.notices.self) c.notices.invariant.gathered (sym c.in_default.ensures.notice) (ap (λ (d : Halves). d.scan) c.next_notice.ensures.step)
+returns-clause-ok c = ends _ c.notices.from.scan _ _ (linked c.notices.self) c.notices.invariant.gathered (sym c.in_default.ensures.notice) (ap (λ (d : Halves). d.scan) c.next_notice.ensures.step)
