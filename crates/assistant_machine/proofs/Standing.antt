@@ -1,7 +1,7 @@
 -- An assistant that stands for its calls stands for one call more.
 use Rattle.std.proofs.Common.{◌≡◌, ◌≢◌, ℕ, zero, suc, ◌<◌, ◌≤◌, inl, inr, Bool, true, false, List, [], ◌∷◌, ◌++◌}
 use Rattle.std.proofs.Common.{length, drop, replicate, refl, sym, ◌∙◌, ap, subst, slice_get, slice_set, Option, Some, None, length-append, arith}
-use Rattle.std.specs.Prelude.{◌&&◌, ◌==◌, not, nat_lt, if◌then◌else◌, unwrap_or}
+use Rattle.std.specs.Prelude.{◌&&◌, ◌==◌, not, nat_lt, if◌then◌else◌, unwrap_or, option_to_list, OnSome}
 use Rattle.std.proofs.lemmas.Bool.{cases_eq, eq-eqb, ltb-false, ltb-true, ne_eqb}
 use Rattle.std.proofs.lemmas.List.{length-set}
 use Rattle.std.proofs.lemmas.Option.{slice_get_within}
@@ -149,6 +149,12 @@ sent_stands slots write rest calls a some s = record {
   views = s.views;
   reads = s.reads;
 }
+
+-- the first write is taken, where there is one
+pub taken_stands : (taken : Option (List ℕ)) (rest : List (List ℕ)) (a : Assistant) → a.writes ≡ option_to_list taken ++ rest
+    → OnSome taken ((slots : ℕ) (calls : List Call) → StandsFor slots calls a → StandsFor slots (sent ∷ calls) (record a { writes = rest }))
+taken_stands None rest a some = tt
+taken_stands (Some write) rest a some = λ slots calls s. subst (λ ws. StandsFor slots (sent ∷ calls) (record a { writes = ws })) (ap (drop 1) some) (sent_stands slots write rest calls a some s)
 
 -- ---- a value that was told or read
 

@@ -62,7 +62,8 @@ impl AssistJoined {
         ensures joined { IfOk result (λ assistant. assistant ≡ joined slots) }
         ensures stands { IfOk result (λ assistant. StandsFor slots [] assistant) }
     {
-        let (views, reads) = empty_slots(alloc, slots)?;
+        let reads = vec![in alloc; false; usize::from(slots)]?;
+        let views = empty_views(alloc, slots)?;
         Ok(AssistJoined {
             alloc,
             mtu: None,
@@ -84,7 +85,6 @@ impl AssistJoined {
     }
 
     /// An Add Source waits as the last write. Each metadata has at most 255 octets.
-    #[tactic(auto, using(crate::proofs::Standing::put_stands))]
     pub fn add(&mut self, op: AddSource) -> Result<(), Memory>
         requires { MetadataFits op.wishes }
         ensures ok { OnOk result (self.new ≡ with_write (encoding (operations.Add op)) self.old) }
@@ -96,7 +96,6 @@ impl AssistJoined {
     }
 
     /// A Modify Source waits as the last write. Each metadata has at most 255 octets.
-    #[tactic(auto, using(crate::proofs::Standing::put_stands))]
     pub fn modify(&mut self, op: ModifySource) -> Result<(), Memory>
         requires { MetadataFits op.wishes }
         ensures ok { OnOk result (self.new ≡ with_write (encoding (operations.Modify op)) self.old) }
@@ -108,7 +107,6 @@ impl AssistJoined {
     }
 
     /// A Remove Source waits as the last write.
-    #[tactic(auto, using(crate::proofs::Standing::put_stands))]
     pub fn remove(&mut self, source_id: u8) -> Result<(), Memory>
         ensures ok { OnOk result (self.new ≡ with_write (encoding (operations.Remove source_id)) self.old) }
         ensures stands { OnOk result ((slots : ℕ) (calls : List Call) → StandsFor slots calls self.old
@@ -119,7 +117,6 @@ impl AssistJoined {
     }
 
     /// A Set Broadcast_Code waits as the last write.
-    #[tactic(auto, using(crate::proofs::Standing::put_stands))]
     pub fn code(&mut self, source_id: u8, code: [u8; 16]) -> Result<(), Memory>
         ensures ok { OnOk result (self.new ≡ with_write (encoding (operations.Code source_id code)) self.old) }
         ensures stands { OnOk result ((slots : ℕ) (calls : List Call) → StandsFor slots calls self.old
@@ -130,7 +127,6 @@ impl AssistJoined {
     }
 
     /// These octets wait as the last write, whatever they are.
-    #[tactic(auto, using(crate::proofs::Standing::put_stands))]
     pub fn raw(&mut self, octets: &[u8]) -> Result<(), Memory>
         ensures ok { OnOk result (self.new ≡ with_write octets.now self.old) }
         ensures stands { OnOk result ((slots : ℕ) (calls : List Call) → StandsFor slots calls self.old
@@ -142,7 +138,6 @@ impl AssistJoined {
     }
 
     /// The same with octets that it may keep: they are not copied.
-    #[tactic(auto, using(crate::proofs::Standing::put_stands))]
     pub fn raw_octets(&mut self, octets: Octets) -> Result<(), Memory>
         ensures ok { OnOk result (self.new ≡ with_write octets self.old) }
         ensures stands { OnOk result ((slots : ℕ) (calls : List Call) → StandsFor slots calls self.old
@@ -153,7 +148,6 @@ impl AssistJoined {
     }
 
     /// The first write that waits, which waits no longer; `None` exactly where none waits. It takes no memory.
-    #[tactic(auto, using(crate::proofs::Standing::sent_stands))]
     pub fn next_write(&mut self) -> Option<Octets>
         ensures write { self.old.writes ≡ option_to_list result ++ self.new.writes }
         ensures none { IfNone result (self.old.writes ≡ []) }
@@ -291,7 +285,7 @@ impl AssistJoined {
         ensures same { IfNone result (self.new ≡ self.old) }
         ensures step { IfSome result (λ slot. self.new ≡ record self.old { reads = slice_set self.old.reads slot false }) }
     {
-        let slot = self.reads.iter().position(|waits| *waits)?;
+        let slot = lowest_of(&self.reads)?;
         self.reads[slot] = false;
         Some(slot as u8)
     }
@@ -310,6 +304,8 @@ impl AssistJoined {
     fn put_operation(&mut self, op: &Operation) -> Result<(), Memory>
         requires { MetadataFits (wishes_of op.now) }
         ensures ok { OnOk result (self.new ≡ with_write (encoding op.now) self.old) }
+        ensures stands { OnOk result ((slots : ℕ) (calls : List Call) → StandsFor slots calls self.old
+            → StandsFor slots (put (encoding op.now) ∷ calls) self.new) }
         ensures err { OnErr result (self.new ≡ self.old) }
     {
         let octets = encode_operation(self.alloc, op)?;
@@ -319,10 +315,19 @@ impl AssistJoined {
     /// Puts octets behind the writes that wait.
     fn put(&mut self, octets: Octets) -> Result<(), Memory>
         ensures ok { OnOk result (self.new ≡ with_write octets self.old) }
+        ensures stands { OnOk result ((slots : ℕ) (calls : List Call) → StandsFor slots calls self.old
+            → StandsFor slots (put octets ∷ calls) self.new) }
         ensures err { OnErr result (self.new ≡ self.old) }
     {
-        self.writes.push_back(octets)?;
-        Ok(())
+        self.push(octets)
+    }
+
+    /// Puts octets at the end of the queue of writes.
+    fn push(&mut self, octets: Octets) -> Result<(), Memory>
+        ensures ok { OnOk result (self.new ≡ with_write octets self.old) }
+        ensures err { OnErr result (self.new ≡ self.old) }
+    {
+        Ok(self.writes.push_back(octets)?)
     }
 
     /// Takes octets as the view of a slot, where they are a value.
@@ -360,17 +365,23 @@ fn view_in(
     }
 }
 
-/// Empty views of so many slots, and no read of them that waits.
-fn empty_slots(alloc: Global, slots: u8) -> Result<(Vec<Option<ReceiveState>>, Vec<bool>), Memory>
-    ensures views { IfOk result (λ made. made.0.items ≡ replicate slots None) }
-    ensures encoded { IfOk result (λ made. All IsEncodedView made.0.items) }
-    ensures reads { IfOk result (λ made. made.1.items ≡ replicate slots false) }
+/// The lowest slot of which a read waits.
+fn lowest_of(reads: &[bool]) -> Option<usize>
+    ensures lowest { IfSome result (λ slot. IsLowest reads.now slot) }
+    ensures within { IfSome result (λ slot. slot < length reads.now) }
+    ensures none { IfNone result (NoneWaits reads.now) }
+{
+    reads.iter().position(|waits| *waits)
+}
+
+/// Empty views of so many slots.
+fn empty_views(alloc: Global, slots: u8) -> Result<Vec<Option<ReceiveState>>, Memory>
+    ensures views { IfOk result (λ views. views.items ≡ replicate slots None) }
+    ensures encoded { IfOk result (λ views. All IsEncodedView views.items) }
 {
     let mut views = Vec::with_capacity(alloc, usize::from(slots))?;
-    let mut reads = Vec::with_capacity(alloc, usize::from(slots))?;
     'slots: for _ in 0..slots {
         views.push(None)?;
-        reads.push(false)?;
     }
-    Ok((views, reads))
+    Ok(views)
 }

@@ -1,5 +1,7 @@
 -- What an Add Source and a Modify Source are judged as, by the steps of reading.
-use Rattle.bass_operations.proofs.Prelude.{◌≡◌, ℕ, ◌+◌, ◌<◌, ◌≤◌, Bool, true, false, cond, ltb, List, [], ◌∷◌, length, Option, Some, None, is_some, Result, Ok, Err, refl, sym, ap, subst, ◌∙◌, arith, lt-ltb, le-ltb, IfOk, IsOk, flat_map, reserved_from, place_in, IsOctets, subgroup_fields, reserved_in, IsOctets-rest, number-length, reserved_found, OpFault, Length, Rfu, AddSource, ModifySource, Operation, Add, Modify, Wish, fields, wishes_of, judged, answered, first_fault, add_reserved, told, Finds, twice_of}
+use Rattle.bass_operations.proofs.Prelude.{◌≡◌, ℕ, ◌+◌, ◌<◌, ◌≤◌, Bool, cond, ltb, List, [], ◌∷◌, length, Option, Some, None, is_some, Result, Ok, Err, refl, sym, ap, subst, ◌∙◌, arith, IfOk, flat_map, reserved_from, place_in, IsOctets, subgroup_fields, reserved_in, IsOctets-rest, number-length, reserved_found, OpFault, Length, AddSource, ModifySource, Operation, Add, Modify, Wish, fields, wishes_of, judged, answered, first_fault, add_reserved, told, Finds, twice_of, WantsFor, Memory}
+use Rattle.std.specs.Option.{option_or}
+use Rattle.std.specs.Prelude.{if◌then◌else◌}
 use Rattle.bass_operations.specs.Reading.{wishes_in, add_head_in, modify_head_in, add_in, modify_in}
 use Rattle.bass_operations.specs.Scanning.{twice_in}
 use Rattle.bass_operations.specs.Twice.{twice_from}
@@ -8,45 +10,27 @@ use Rattle.bass_operations.proofs.Judged.{judged_by}
 use Rattle.bass_operations.proofs.Loops.{twice_found}
 use Rattle.bass_operations.proofs.Encoded.{wish_fields, fields_same, groups_of_wishes, wishes_take}
 
--- the first place that is there
-abbrev pub or_place : Option ℕ → Option ℕ → Option ℕ
-or_place (Some place) other = Some place
-or_place None other = other
+-- what is judged of a head and the subgroups behind it: the first fault of both, where there are subgroups
+abbrev pub behind : Option (List Wish) → Option ℕ → Option ℕ → Option OpFault
+behind read place twice = if is_some read then first_fault place twice else Some Length
 
-some_wishes : (read : Option (List Wish)) → is_some read ≡ true → (wishes : List Wish) × (read ≡ Some wishes)
-some_wishes read e = grind arith
+pub record IsJudged (judge : Result Operation OpFault) (make : List Wish → Operation) (read : Option (List Wish)) (place twice : Option ℕ) : Type 0 where
+  pub short : read ≡ None → judge ≡ Err Length
+  pub long : (wishes : List Wish) → read ≡ Some wishes → judge ≡ answered (make wishes) (first_fault place twice)
 
-no_wishes : (read : Option (List Wish)) → is_some read ≡ false → read ≡ None
-no_wishes read e = grind arith
+answered_finds : (op : Operation) (fault : Option OpFault) → Finds fault (answered op fault)
+answered_finds op None = refl
+answered_finds op (Some fault) = refl
 
--- ---- what follows of the first fault
+pub finds : (judge : Result Operation OpFault) (make : List Wish → Operation) (read : Option (List Wish)) (place twice : Option ℕ) (fault : OpFault) → IsJudged judge make read place twice
+    → behind read place twice ≡ told fault → Finds (told fault) judge
+finds judge make None place twice fault is e = subst (λ f. Finds f judge) e (is.short refl)
+finds judge make (Some wishes) place twice fault is e = subst (λ f. Finds f judge) e (subst (Finds (first_fault place twice)) (sym (is.long wishes refl)) (answered_finds (make wishes) (first_fault place twice)))
 
-pub head_fault : (read : Result Operation OpFault) (op : Operation) (head others twice : Option ℕ) (place : ℕ) → read ≡ answered op (first_fault (or_place head others) twice)
-    → head ≡ Some place → read ≡ Err (Rfu place)
-head_fault read op head others twice place e h = e ∙ ap (λ (p : Option ℕ). answered op (first_fault (or_place p others) twice)) h
-
-fails : (read : Result Operation OpFault) (op : Operation) (others twice : Option ℕ) (fault : OpFault) → read ≡ answered op (first_fault others twice) → Some fault ≡ first_fault others twice
-    → Finds (told fault) read
-fails read op others twice fault e f = grind (arith, told)
-
-behind_head : (read : Result Operation OpFault) (op : Operation) (head others twice : Option ℕ) → read ≡ answered op (first_fault (or_place head others) twice) → head ≡ None
-    → read ≡ answered op (first_fault others twice)
-behind_head read op head others twice e h = e ∙ ap (λ (p : Option ℕ). answered op (first_fault (or_place p others) twice)) h
-
-wishes_fault : (read : Result Operation OpFault) (op : Operation) (head others twice : Option ℕ) (fault : OpFault) → read ≡ answered op (first_fault (or_place head others) twice) → head ≡ None
-    → Some fault ≡ first_fault others twice → Finds (told fault) read
-wishes_fault read op head others twice fault e h f = fails read op others twice fault (behind_head read op head others twice e h) f
-
-no_fault_left : (read : Result Operation OpFault) (op : Operation) (head others twice : Option ℕ) → read ≡ answered op (first_fault (or_place head others) twice) → head ≡ None
-    → None ≡ first_fault others twice → read ≡ Ok op
-no_fault_left read op head others twice e h f = behind_head read op head others twice e h ∙ ap (answered op) (sym f)
-
-is_ok : (read : Result Operation OpFault) (op : Operation) → read ≡ Ok op → IsOk read
-is_ok read op e = grind arith
-
-an_operation : (read : Result Operation OpFault) (op : Operation) (head others twice : Option ℕ) → read ≡ answered op (first_fault (or_place head others) twice) → head ≡ None
-    → None ≡ first_fault others twice → IsOk read
-an_operation read op head others twice e h f = is_ok read op (no_fault_left read op head others twice e h f)
+pub done : (judge : Result Operation OpFault) (make : List Wish → Operation) (read : Option (List Wish)) (place twice : Option ℕ) (wishes : List Wish) → IsJudged judge make read place twice
+    → read ≡ Some wishes → behind read place twice ≡ None → judge ≡ Ok (make wishes)
+done judge make read place twice wishes is e none =
+    is.long wishes e ∙ ap (answered (make wishes)) (ap (λ r. behind r place twice) (sym e) ∙ none)
 
 -- it has a subgroup where the number of them says so
 has_subgroup : (read : Result Operation OpFault) (op : Operation) (count : ℕ) (tail : List ℕ) (wishes : List Wish) → read ≡ Ok op → wishes_of op ≡ wishes → IsOctets tail
@@ -55,6 +39,16 @@ has_subgroup (Ok read) op count tail wishes e of h w some =
     let same : op ≡ read = cc in
     subst (λ (o : Operation). 0 < length (wishes_of o)) same (omega (arith, ap length of, (wishes_take count tail wishes h w).counted))
 has_subgroup (Err fault) op count tail wishes e of h w some = tt
+
+-- memory is wanted for an operation that is read
+pub wants : (judge : Result Operation OpFault) (make : List Wish → Operation) (count : ℕ) (tail : List ℕ) (place twice : Option ℕ) (fault : OpFault) → ((wishes : List Wish) → wishes_of (make wishes) ≡ wishes)
+    → IsOctets tail → IsJudged judge make (wishes_in count tail) place twice → behind (wishes_in count tail) place twice ≡ told fault → (fault ≡ Memory → 0 < count) → WantsFor fault judge
+wants judge make count tail place twice Memory of h is e more = go (wishes_in count tail) refl
+  where
+    go : (read : Option (List Wish)) → wishes_in count tail ≡ read → IfOk judge (λ op. 0 < length (wishes_of op))
+    go None w = absurd (let none : Some Length ≡ None = ap (λ r. behind r place twice) (sym w) ∙ e in cc)
+    go (Some wishes) w = has_subgroup judge (make wishes) count tail wishes (done judge make (wishes_in count tail) place twice wishes is w e) (of wishes) h w (more refl)
+wants judge make count tail place twice fault of h is e more = tt
 
 -- the fields of the wishes are the subgroups that were looked through
 wishes_place : (from : List ℕ) (place count : ℕ) (tail : List ℕ) (wishes : List Wish) → IsOctets tail → length from ≡ place + length tail → wishes_in count tail ≡ Some wishes
@@ -72,24 +66,19 @@ wishes_twice count tail wishes e =
 
 -- ---- Add Source
 
-three : (a b c : Bool) (others : Option ℕ) → cond a (Some 1) (cond b (Some 8) (cond c (Some 12) others)) ≡ or_place (cond a (Some 1) (cond b (Some 8) (cond c (Some 12) None))) others
+three : (a b c : Bool) (others : Option ℕ) → cond a (Some 1) (cond b (Some 8) (cond c (Some 12) others)) ≡ option_or (cond a (Some 1) (cond b (Some 8) (cond c (Some 12) None))) others
 three a b c others = grind arith
 
 abbrev pub added : AddSource → List Wish → Operation
 added add wishes = Add (record add { wishes = wishes })
 
 add_places : (add : AddSource) (wishes : List Wish) → length add.address ≡ 6 → length add.broadcast_id ≡ 3
-    → reserved_from 0 (fields (added add wishes)) ≡ or_place (add_reserved add) (reserved_from 16 (flat_map wish_fields wishes))
+    → reserved_from 0 (fields (added add wishes)) ≡ option_or (add_reserved add) (reserved_from 16 (flat_map wish_fields wishes))
 add_places add wishes address id = grind (arith, number-length, three, ltb, reserved_from, flat_map, wish_fields)
 
 pub add_no_head : (rest : List ℕ) → add_head_in rest ≡ None → judged (add_in rest) ≡ Err Length
 unfolding add_in
 add_no_head rest e = rw e refl
-
-pub add_no_wishes : (rest : List ℕ) (add : AddSource) (count : ℕ) (tail : List ℕ) → add_head_in rest ≡ Some (add, count, tail) → is_some (wishes_in count tail) ≡ false
-    → judged (add_in rest) ≡ Err Length
-unfolding add_in
-add_no_wishes rest add count tail e none = let short = no_wishes (wishes_in count tail) none in rw (e, short) refl
 
 add_read : (rest : List ℕ) (add : AddSource) (count : ℕ) (tail : List ℕ) (wishes : List Wish) → add_head_in rest ≡ Some (add, count, tail) → wishes_in count tail ≡ Some wishes
     → add_in rest ≡ Some (added add wishes)
@@ -98,52 +87,26 @@ add_read rest add count tail wishes e w = rw (e, w) refl
 
 pub add_judged : (from rest : List ℕ) (add : AddSource) (count : ℕ) (tail : List ℕ) (wishes : List Wish) → IsOctets from → from ≡ 2 ∷ rest → add_head_in rest ≡ Some (add, count, tail)
     → wishes_in count tail ≡ Some wishes
-    → judged (add_in rest) ≡ answered (added add wishes) (first_fault (or_place (add_reserved add) (reserved_in from count tail)) (twice_in 31 1 count tail))
+    → judged (add_in rest) ≡ answered (added add wishes) (first_fault (option_or (add_reserved add) (reserved_in from count tail)) (twice_in 31 1 count tail))
 add_judged from rest add count tail wishes h parts e w =
     let t = add_head_takes rest (add, count, tail) (IsOctets-rest 2 rest (subst IsOctets parts h)) e in
     let len : length from ≡ 16 + length tail = omega (arith, ap length parts, ap length t.parts, add_before-length add count tail t.address t.broadcast_id) in
-    let places = add_places add wishes t.address t.broadcast_id ∙ ap (or_place (add_reserved add)) (wishes_place from 16 count tail wishes t.octets len w) in
+    let places = add_places add wishes t.address t.broadcast_id ∙ ap (option_or (add_reserved add)) (wishes_place from 16 count tail wishes t.octets len w) in
     let twice = wishes_twice count tail wishes w in
     ap judged (add_read rest add count tail wishes e w)
-    ∙ judged_by (added add wishes) (first_fault (or_place (add_reserved add) (reserved_in from count tail)) (twice_in 31 1 count tail))
-    (ap (λ (p : Option ℕ). first_fault p (twice_of wishes)) places ∙ ap (first_fault (or_place (add_reserved add) (reserved_in from count tail))) twice)
+    ∙ judged_by (added add wishes) (first_fault (option_or (add_reserved add) (reserved_in from count tail)) (twice_in 31 1 count tail))
+    (ap (λ (p : Option ℕ). first_fault p (twice_of wishes)) places ∙ ap (first_fault (option_or (add_reserved add) (reserved_in from count tail))) twice)
 
-add_judged_some : (from rest : List ℕ) (add : AddSource) (count : ℕ) (tail : List ℕ) → IsOctets from → from ≡ 2 ∷ rest → add_head_in rest ≡ Some (add, count, tail)
-    → is_some (wishes_in count tail) ≡ true
-    → (wishes : List Wish) × (judged (add_in rest) ≡ answered (added add wishes) (first_fault (or_place (add_reserved add) (reserved_in from count tail)) (twice_in 31 1 count tail)))
-add_judged_some from rest add count tail h parts e some = grind (arith, some_wishes, add_judged)
+pub add_is : (from rest : List ℕ) (add : AddSource) (count : ℕ) (tail : List ℕ) → IsOctets from → from ≡ 2 ∷ rest → add_head_in rest ≡ Some (add, count, tail)
+    → IsJudged (judged (add_in rest)) (added add) (wishes_in count tail) (option_or (add_reserved add) (reserved_in from count tail)) (twice_in 31 1 count tail)
+unfolding add_in
+add_is from rest add count tail h parts e = record { short = λ none. rw (e, none) refl; long = λ wishes w. add_judged from rest add count tail wishes h parts e w }
 
-pub add_head_fault : (from rest : List ℕ) (add : AddSource) (count : ℕ) (tail : List ℕ) (place : ℕ) → IsOctets from → from ≡ 2 ∷ rest → add_head_in rest ≡ Some (add, count, tail)
-    → is_some (wishes_in count tail) ≡ true → Some place ≡ add_reserved add → judged (add_in rest) ≡ Err (Rfu place)
-add_head_fault from rest add count tail place h parts e some r =
-    let j = add_judged_some from rest add count tail h parts e some in
-    head_fault (judged (add_in rest)) (added add j.0) (add_reserved add) (reserved_in from count tail) (twice_in 31 1 count tail) place j.1 (sym r)
-
-pub add_wishes_fault : (from rest : List ℕ) (add : AddSource) (count : ℕ) (tail : List ℕ) (fault : OpFault) → IsOctets from → from ≡ 2 ∷ rest → add_head_in rest ≡ Some (add, count, tail)
-    → is_some (wishes_in count tail) ≡ true → None ≡ add_reserved add → Some fault ≡ first_fault (reserved_in from count tail) (twice_in 31 1 count tail) → Finds (told fault) (judged (add_in rest))
-add_wishes_fault from rest add count tail fault h parts e some r f =
-    let j = add_judged_some from rest add count tail h parts e some in
-    wishes_fault (judged (add_in rest)) (added add j.0) (add_reserved add) (reserved_in from count tail) (twice_in 31 1 count tail) fault j.1 (sym r) f
-
-pub add_is_operation : (from rest : List ℕ) (add : AddSource) (count : ℕ) (tail : List ℕ) → IsOctets from → from ≡ 2 ∷ rest → add_head_in rest ≡ Some (add, count, tail)
-    → is_some (wishes_in count tail) ≡ true → None ≡ add_reserved add → None ≡ first_fault (reserved_in from count tail) (twice_in 31 1 count tail) → IsOk (judged (add_in rest))
-add_is_operation from rest add count tail h parts e some r f =
-    let j = add_judged_some from rest add count tail h parts e some in
-    an_operation (judged (add_in rest)) (added add j.0) (add_reserved add) (reserved_in from count tail) (twice_in 31 1 count tail) j.1 (sym r) f
-
-pub add_done : (from rest : List ℕ) (add : AddSource) (count : ℕ) (tail : List ℕ) (wishes : List Wish) → IsOctets from → from ≡ 2 ∷ rest → add_head_in rest ≡ Some (add, count, tail)
-    → wishes_in count tail ≡ Some wishes → None ≡ add_reserved add → None ≡ first_fault (reserved_in from count tail) (twice_in 31 1 count tail) → judged (add_in rest) ≡ Ok (added add wishes)
-add_done from rest add count tail wishes h parts e w r f =
-    no_fault_left (judged (add_in rest)) (added add wishes) (add_reserved add) (reserved_in from count tail) (twice_in 31 1 count tail)
-    (add_judged from rest add count tail wishes h parts e w) (sym r) f
-
-pub add_wants : (from rest : List ℕ) (add : AddSource) (count : ℕ) (tail : List ℕ) → IsOctets from → from ≡ 2 ∷ rest → add_head_in rest ≡ Some (add, count, tail)
-    → is_some (wishes_in count tail) ≡ true → None ≡ add_reserved add → None ≡ first_fault (reserved_in from count tail) (twice_in 31 1 count tail) → 0 < count
-    → IfOk (judged (add_in rest)) (λ op. 0 < length (wishes_of op))
-add_wants from rest add count tail h parts e some r f more =
-    let w = some_wishes (wishes_in count tail) some in
+pub add_wants : (from rest : List ℕ) (add : AddSource) (count : ℕ) (tail : List ℕ) (fault : OpFault) → IsOctets from → from ≡ 2 ∷ rest → add_head_in rest ≡ Some (add, count, tail)
+    → behind (wishes_in count tail) (option_or (add_reserved add) (reserved_in from count tail)) (twice_in 31 1 count tail) ≡ told fault → (fault ≡ Memory → 0 < count) → WantsFor fault (judged (add_in rest))
+add_wants from rest add count tail fault h parts e f more =
     let t = add_head_takes rest (add, count, tail) (IsOctets-rest 2 rest (subst IsOctets parts h)) e in
-    has_subgroup (judged (add_in rest)) (added add w.0) count tail w.0 (add_done from rest add count tail w.0 h parts e w.1 r f) refl t.octets w.1 more
+    wants (judged (add_in rest)) (added add) count tail _ _ fault (λ wishes. refl) t.octets (add_is from rest add count tail h parts e) f more
 
 pub add_tail : (from rest : List ℕ) (add : AddSource) (count : ℕ) (tail : List ℕ) → IsOctets from → from ≡ 2 ∷ rest → add_head_in rest ≡ Some (add, count, tail) → length tail ≤ length from
 add_tail from rest add count tail h parts e =
@@ -155,23 +118,18 @@ add_tail from rest add count tail h parts e =
 abbrev pub modify_reserved : ModifySource → Option ℕ
 modify_reserved modify = cond (ltb 2 modify.pa_sync) (Some 2) None
 
-one : (a : Bool) (others : Option ℕ) → cond a (Some 2) others ≡ or_place (cond a (Some 2) None) others
+one : (a : Bool) (others : Option ℕ) → cond a (Some 2) others ≡ option_or (cond a (Some 2) None) others
 one a others = grind arith
 
 abbrev pub modified : ModifySource → List Wish → Operation
 modified modify wishes = Modify (record modify { wishes = wishes })
 
-modify_places : (modify : ModifySource) (wishes : List Wish) → reserved_from 0 (fields (modified modify wishes)) ≡ or_place (modify_reserved modify) (reserved_from 6 (flat_map wish_fields wishes))
+modify_places : (modify : ModifySource) (wishes : List Wish) → reserved_from 0 (fields (modified modify wishes)) ≡ option_or (modify_reserved modify) (reserved_from 6 (flat_map wish_fields wishes))
 modify_places modify wishes = rw (number-length 2 modify.pa_interval) (one (ltb 2 modify.pa_sync) (reserved_from 6 (flat_map wish_fields wishes)))
 
 pub modify_no_head : (rest : List ℕ) → modify_head_in rest ≡ None → judged (modify_in rest) ≡ Err Length
 unfolding modify_in
 modify_no_head rest e = rw e refl
-
-pub modify_no_wishes : (rest : List ℕ) (modify : ModifySource) (count : ℕ) (tail : List ℕ) → modify_head_in rest ≡ Some (modify, count, tail) → is_some (wishes_in count tail) ≡ false
-    → judged (modify_in rest) ≡ Err Length
-unfolding modify_in
-modify_no_wishes rest modify count tail e none = let short = no_wishes (wishes_in count tail) none in rw (e, short) refl
 
 modify_read : (rest : List ℕ) (modify : ModifySource) (count : ℕ) (tail : List ℕ) (wishes : List Wish) → modify_head_in rest ≡ Some (modify, count, tail) → wishes_in count tail ≡ Some wishes
     → modify_in rest ≡ Some (modified modify wishes)
@@ -180,64 +138,29 @@ modify_read rest modify count tail wishes e w = rw (e, w) refl
 
 pub modify_judged : (from rest : List ℕ) (modify : ModifySource) (count : ℕ) (tail : List ℕ) (wishes : List Wish) → IsOctets from → from ≡ 3 ∷ rest
     → modify_head_in rest ≡ Some (modify, count, tail) → wishes_in count tail ≡ Some wishes
-    → judged (modify_in rest) ≡ answered (modified modify wishes) (first_fault (or_place (modify_reserved modify) (reserved_in from count tail)) (twice_in 31 1 count tail))
+    → judged (modify_in rest) ≡ answered (modified modify wishes) (first_fault (option_or (modify_reserved modify) (reserved_in from count tail)) (twice_in 31 1 count tail))
 modify_judged from rest modify count tail wishes h parts e w =
     let t = modify_head_takes rest (modify, count, tail) (IsOctets-rest 3 rest (subst IsOctets parts h)) e in
     let len : length from ≡ 6 + length tail = omega (arith, ap length parts, ap length t.parts, modify_before-length modify count tail) in
-    let places = modify_places modify wishes ∙ ap (or_place (modify_reserved modify)) (wishes_place from 6 count tail wishes t.octets len w) in
+    let places = modify_places modify wishes ∙ ap (option_or (modify_reserved modify)) (wishes_place from 6 count tail wishes t.octets len w) in
     let twice = wishes_twice count tail wishes w in
     ap judged (modify_read rest modify count tail wishes e w)
-    ∙ judged_by (modified modify wishes) (first_fault (or_place (modify_reserved modify) (reserved_in from count tail)) (twice_in 31 1 count tail))
-    (ap (λ (p : Option ℕ). first_fault p (twice_of wishes)) places ∙ ap (first_fault (or_place (modify_reserved modify) (reserved_in from count tail))) twice)
+    ∙ judged_by (modified modify wishes) (first_fault (option_or (modify_reserved modify) (reserved_in from count tail)) (twice_in 31 1 count tail))
+    (ap (λ (p : Option ℕ). first_fault p (twice_of wishes)) places ∙ ap (first_fault (option_or (modify_reserved modify) (reserved_in from count tail))) twice)
 
-modify_judged_some : (from rest : List ℕ) (modify : ModifySource) (count : ℕ) (tail : List ℕ) → IsOctets from → from ≡ 3 ∷ rest → modify_head_in rest ≡ Some (modify, count, tail)
-    → is_some (wishes_in count tail) ≡ true
-    → (wishes : List Wish) × (judged (modify_in rest) ≡ answered (modified modify wishes) (first_fault (or_place (modify_reserved modify) (reserved_in from count tail)) (twice_in 31 1 count tail)))
-modify_judged_some from rest modify count tail h parts e some = grind (arith, some_wishes, modify_judged)
+pub modify_is : (from rest : List ℕ) (modify : ModifySource) (count : ℕ) (tail : List ℕ) → IsOctets from → from ≡ 3 ∷ rest → modify_head_in rest ≡ Some (modify, count, tail)
+    → IsJudged (judged (modify_in rest)) (modified modify) (wishes_in count tail) (option_or (modify_reserved modify) (reserved_in from count tail)) (twice_in 31 1 count tail)
+unfolding modify_in
+modify_is from rest modify count tail h parts e = record { short = λ none. rw (e, none) refl; long = λ wishes w. modify_judged from rest modify count tail wishes h parts e w }
 
-pub modify_head_fault : (from rest : List ℕ) (modify : ModifySource) (count : ℕ) (tail : List ℕ) (place : ℕ) → IsOctets from → from ≡ 3 ∷ rest
-    → modify_head_in rest ≡ Some (modify, count, tail) → is_some (wishes_in count tail) ≡ true → Some place ≡ modify_reserved modify → judged (modify_in rest) ≡ Err (Rfu place)
-modify_head_fault from rest modify count tail place h parts e some r =
-    let j = modify_judged_some from rest modify count tail h parts e some in
-    head_fault (judged (modify_in rest)) (modified modify j.0) (modify_reserved modify) (reserved_in from count tail) (twice_in 31 1 count tail) place j.1 (sym r)
-
-pub modify_wishes_fault : (from rest : List ℕ) (modify : ModifySource) (count : ℕ) (tail : List ℕ) (fault : OpFault) → IsOctets from → from ≡ 3 ∷ rest
-    → modify_head_in rest ≡ Some (modify, count, tail) → is_some (wishes_in count tail) ≡ true → None ≡ modify_reserved modify
-    → Some fault ≡ first_fault (reserved_in from count tail) (twice_in 31 1 count tail) → Finds (told fault) (judged (modify_in rest))
-modify_wishes_fault from rest modify count tail fault h parts e some r f =
-    let j = modify_judged_some from rest modify count tail h parts e some in
-    wishes_fault (judged (modify_in rest)) (modified modify j.0) (modify_reserved modify) (reserved_in from count tail) (twice_in 31 1 count tail) fault j.1 (sym r) f
-
-pub modify_is_operation : (from rest : List ℕ) (modify : ModifySource) (count : ℕ) (tail : List ℕ) → IsOctets from → from ≡ 3 ∷ rest → modify_head_in rest ≡ Some (modify, count, tail)
-    → is_some (wishes_in count tail) ≡ true → None ≡ modify_reserved modify → None ≡ first_fault (reserved_in from count tail) (twice_in 31 1 count tail) → IsOk (judged (modify_in rest))
-modify_is_operation from rest modify count tail h parts e some r f =
-    let j = modify_judged_some from rest modify count tail h parts e some in
-    an_operation (judged (modify_in rest)) (modified modify j.0) (modify_reserved modify) (reserved_in from count tail) (twice_in 31 1 count tail) j.1 (sym r) f
-
-pub modify_done : (from rest : List ℕ) (modify : ModifySource) (count : ℕ) (tail : List ℕ) (wishes : List Wish) → IsOctets from → from ≡ 3 ∷ rest
-    → modify_head_in rest ≡ Some (modify, count, tail) → wishes_in count tail ≡ Some wishes → None ≡ modify_reserved modify
-    → None ≡ first_fault (reserved_in from count tail) (twice_in 31 1 count tail) → judged (modify_in rest) ≡ Ok (modified modify wishes)
-modify_done from rest modify count tail wishes h parts e w r f =
-    no_fault_left (judged (modify_in rest)) (modified modify wishes) (modify_reserved modify) (reserved_in from count tail) (twice_in 31 1 count tail)
-    (modify_judged from rest modify count tail wishes h parts e w) (sym r) f
-
-pub modify_wants : (from rest : List ℕ) (modify : ModifySource) (count : ℕ) (tail : List ℕ) → IsOctets from → from ≡ 3 ∷ rest
-    → modify_head_in rest ≡ Some (modify, count, tail) → is_some (wishes_in count tail) ≡ true → None ≡ modify_reserved modify
-    → None ≡ first_fault (reserved_in from count tail) (twice_in 31 1 count tail) → 0 < count → IfOk (judged (modify_in rest)) (λ op. 0 < length (wishes_of op))
-modify_wants from rest modify count tail h parts e some r f more =
-    let w = some_wishes (wishes_in count tail) some in
+pub modify_wants : (from rest : List ℕ) (modify : ModifySource) (count : ℕ) (tail : List ℕ) (fault : OpFault) → IsOctets from → from ≡ 3 ∷ rest → modify_head_in rest ≡ Some (modify, count, tail)
+    → behind (wishes_in count tail) (option_or (modify_reserved modify) (reserved_in from count tail)) (twice_in 31 1 count tail) ≡ told fault → (fault ≡ Memory → 0 < count) → WantsFor fault (judged (modify_in rest))
+modify_wants from rest modify count tail fault h parts e f more =
     let t = modify_head_takes rest (modify, count, tail) (IsOctets-rest 3 rest (subst IsOctets parts h)) e in
-    has_subgroup (judged (modify_in rest)) (modified modify w.0) count tail w.0 (modify_done from rest modify count tail w.0 h parts e w.1 r f) refl t.octets w.1 more
+    wants (judged (modify_in rest)) (modified modify) count tail _ _ fault (λ wishes. refl) t.octets (modify_is from rest modify count tail h parts e) f more
 
 pub modify_tail : (from rest : List ℕ) (modify : ModifySource) (count : ℕ) (tail : List ℕ) → IsOctets from → from ≡ 3 ∷ rest → modify_head_in rest ≡ Some (modify, count, tail)
     → length tail ≤ length from
 modify_tail from rest modify count tail h parts e =
     let t = modify_head_takes rest (modify, count, tail) (IsOctets-rest 3 rest (subst IsOctets parts h)) e in
     omega (arith, ap length parts, ap length t.parts, modify_before-length modify count tail)
-
--- a place is none where the value is none of the reserved
-pub unreserved : (n : ℕ) → n ≤ 2 → cond {A = Option ℕ} (ltb 2 n) (Some 2) None ≡ None
-unreserved n h = let below : ltb 2 n ≡ false = le-ltb 2 n h in rw below refl
-
-pub reserved : (n : ℕ) → 2 < n → cond {A = Option ℕ} (ltb 2 n) (Some 2) None ≡ Some 2
-reserved n h = let above : ltb 2 n ≡ true = lt-ltb 2 n h in rw above refl

@@ -1,18 +1,22 @@
-ghost use Rattle.std.specs.Prelude.{◌≡◌, ◌∷◌, IfOk, IfErr, Ok};
+ghost use Rattle.std.specs.Prelude.{◌≡◌, ◌<◌, ◌≤◌, ◌∷◌, length, nat_lt, is_some, if◌then◌else◌, IfOk, IfErr, Ok, Some, None};
+ghost use Rattle.std.specs.Option.{option_or};
+ghost use Rattle.bcast_base.specs.Subgroups.{reserved_in};
 ghost use Rattle.bcast_base.specs.Reading.{Gives};
 ghost use Rattle.bcast_base.specs.Tries.{Answers};
 ghost use Rattle.bass_operations.specs.Faults.{IsFault};
 ghost use Rattle.bass_operations.specs.Layout.{MetadataFits, OpIs, wishes_of};
-ghost use Rattle.bass_operations.specs.Reading.{WantsFor, told, op_of, judged, add_in, add_head_in, add_reserved, modify_in, modify_head_in, code_in, remove_in};
+ghost use Rattle.bass_operations.specs.Reading.{WantsFor, told, op_of, judged, add_in, add_head_in, add_reserved, modify_in, modify_head_in, code_in, remove_in, wishes_in, first_fault};
+ghost use Rattle.bass_operations.specs.Scanning.{twice_in};
+ghost use Rattle.bass_operations.specs.declared.fault.OpFault.TheVariants.{Length, Memory as NoMemory};
 ghost use Rattle.bass_operations.specs.declared.operation.Operation.{Operation};
 
 use crate::fault::OpFault;
 use crate::operation::{AddSource, ModifySource, Operation};
 use crate::scanning::{are_wishes, check_wishes, read_wishes};
 use crate::wishes::Wishes;
-use bcast_base::{array_at, number_at, octet_at};
+use bcast_base::{array_at, octet_at};
 use std::alloc::Global;
-use std::mem::swap;
+use std::mem::replace;
 
 // Places of fields that may have a reserved value: behind the opcode of an Add Source its address type, its SID behind an
 // address of 6 octets, and PA_Sync behind a Broadcast_ID of 3; in a Modify Source PA_Sync behind the Source_ID.
@@ -38,7 +42,7 @@ pub fn decode_operation(alloc: Global, from: &[u8]) -> Result<Operation, OpFault
     ensures fault { IfErr result (λ fault. IsFault fault from.now) }
 {
     let mut spare = Wishes::new(alloc);
-    read_operation(alloc, &mut spare, from)
+    decode_operation_over(alloc, &mut spare, from)
 }
 
 /// Reads an operation as `decode_operation` does. Its wishes are in the memory of earlier ones, which are given away.
@@ -91,15 +95,8 @@ fn read_add(
     let Some((mut add, count, subgroups)) = add_head(alloc, rest) else {
         return Err(OpFault::Length);
     };
-    if !are_wishes(count, subgroups) {
-        return Err(OpFault::Length);
-    }
-    if let Some(place) = reserved_in_add(&add) {
-        return Err(OpFault::Rfu { place });
-    }
-    check_wishes(from, count, subgroups)?;
-    swap(&mut add.wishes, spare);
-    read_wishes(alloc, &mut add.wishes, count, subgroups)?;
+    let reserved = reserved_in_add(&add);
+    add.wishes = wishes_behind(alloc, spare, from, reserved, count, subgroups)?;
     Ok(Operation::Add(add))
 }
 
@@ -117,18 +114,40 @@ fn read_modify(
     let Some((mut modify, count, subgroups)) = modify_head(alloc, rest) else {
         return Err(OpFault::Length);
     };
+    let reserved = reserved_in_modify(&modify);
+    modify.wishes = wishes_behind(alloc, spare, from, reserved, count, subgroups)?;
+    Ok(Operation::Modify(modify))
+}
+
+// The wishes of so many subgroups, the last octets of `whole`, behind fields of which the first that has a reserved value
+// stands at this place. They are in the memory of earlier ones, which are given away.
+fn wishes_behind(
+    alloc: Global,
+    spare: &mut Wishes,
+    whole: &[u8],
+    reserved: Option<usize>,
+    count: u8,
+    subgroups: &[u8],
+) -> Result<Wishes, OpFault>
+    requires { length subgroups.now ≤ length whole.now }
+    ensures wishes { IfOk result (λ wishes. wishes_in count subgroups.now ≡ Some wishes) }
+    ensures faultless { let fault = if is_some (wishes_in count subgroups.now)
+        then first_fault (option_or reserved (reserved_in whole.now count subgroups.now)) (twice_in 31 1 count subgroups.now) else Some Length
+        in IfOk result (λ _. fault ≡ None) }
+    ensures fault { let fault = if is_some (wishes_in count subgroups.now)
+        then first_fault (option_or reserved (reserved_in whole.now count subgroups.now)) (twice_in 31 1 count subgroups.now) else Some Length
+        in IfErr result (λ err. fault ≡ told err) }
+    ensures memory { IfErr result (λ err. err ≡ NoMemory → 0 < count) }
+{
     if !are_wishes(count, subgroups) {
         return Err(OpFault::Length);
     }
-    if modify.pa_sync > 2 {
-        return Err(OpFault::Rfu {
-            place: MODIFY_PA_SYNC_PLACE,
-        });
+    if let Some(place) = reserved {
+        return Err(OpFault::Rfu { place });
     }
-    check_wishes(from, count, subgroups)?;
-    swap(&mut modify.wishes, spare);
-    read_wishes(alloc, &mut modify.wishes, count, subgroups)?;
-    Ok(Operation::Modify(modify))
+    check_wishes(whole, count, subgroups)?;
+    read_wishes(alloc, spare, count, subgroups)?;
+    Ok(replace(spare, Wishes::new(alloc)))
 }
 
 // Set Broadcast_Code, the octets behind the opcode.
@@ -162,23 +181,37 @@ fn remove_at(from: &[u8]) -> Option<Operation>
 fn add_head(alloc: Global, from: &[u8]) -> Option<(AddSource, u8, &[u8])>
     ensures { Gives (λ x. (x.0, x.1, x.2.now)) result (add_head_in from.now) }
 {
-    let (address_type, rest) = octet_at(from)?;
-    let (address, rest) = array_at::<6>(rest)?;
-    let (sid, rest) = octet_at(rest)?;
-    let (broadcast_id, rest) = array_at::<3>(rest)?;
-    let (pa_sync, rest) = octet_at(rest)?;
-    let (pa_interval, rest) = number_at(rest, 2)?;
-    let (count, rest) = octet_at(rest)?;
-    let add = AddSource {
+    let [
         address_type,
-        address,
+        a,
+        b,
+        c,
+        d,
+        e,
+        f,
         sid,
-        broadcast_id,
+        g,
+        h,
+        i,
         pa_sync,
-        pa_interval: pa_interval as u16,
+        low,
+        high,
+        count,
+        rest @ ..,
+    ] = from
+    else {
+        return None;
+    };
+    let add = AddSource {
+        address_type: *address_type,
+        address: [*a, *b, *c, *d, *e, *f],
+        sid: *sid,
+        broadcast_id: [*g, *h, *i],
+        pa_sync: *pa_sync,
+        pa_interval: u16::from(*low) + 256 * u16::from(*high),
         wishes: Wishes::new(alloc),
     };
-    Some((add, count, rest))
+    Some((add, *count, rest))
 }
 
 // The same of a Modify Source.
@@ -186,17 +219,26 @@ fn add_head(alloc: Global, from: &[u8]) -> Option<(AddSource, u8, &[u8])>
 fn modify_head(alloc: Global, from: &[u8]) -> Option<(ModifySource, u8, &[u8])>
     ensures { Gives (λ x. (x.0, x.1, x.2.now)) result (modify_head_in from.now) }
 {
-    let (source_id, rest) = octet_at(from)?;
-    let (pa_sync, rest) = octet_at(rest)?;
-    let (pa_interval, rest) = number_at(rest, 2)?;
-    let (count, rest) = octet_at(rest)?;
+    let [source_id, pa_sync, low, high, count, rest @ ..] = from else {
+        return None;
+    };
     let modify = ModifySource {
-        source_id,
-        pa_sync,
-        pa_interval: pa_interval as u16,
+        source_id: *source_id,
+        pa_sync: *pa_sync,
+        pa_interval: u16::from(*low) + 256 * u16::from(*high),
         wishes: Wishes::new(alloc),
     };
-    Some((modify, count, rest))
+    Some((modify, *count, rest))
+}
+
+// The place of PA_Sync, where it has a reserved value.
+fn reserved_in_modify(modify: &ModifySource) -> Option<usize>
+    ensures { result ≡ (if nat_lt 2 modify.now.pa_sync then Some 2 else None) }
+{
+    if modify.pa_sync > 2 {
+        return Some(MODIFY_PA_SYNC_PLACE);
+    }
+    None
 }
 
 // The place of the first field before the subgroups that has a reserved value.

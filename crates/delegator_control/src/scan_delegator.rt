@@ -272,10 +272,7 @@ fn empty_slots(alloc: Global, count: u8) -> Result<Vec<Option<Slot>>, Memory>
 {
     let mut slots = Vec::new(alloc);
     'places: for _ in 0..count {
-        match slots.push(None) {
-            Ok(()) => continue 'places,
-            Err(_) => return Err(Memory),
-        }
+        slots.push(None)?;
     }
     Ok(slots)
 }

@@ -2,7 +2,8 @@
 ghost use Rattle.std.specs.Prelude.{ℕ, List, ◌≡◌, ◌≢◌, ◌<◌, ◌≤◌, ◌+◌, ◌++◌, ◌∷◌, [], drop, length, if◌then◌else◌, get_or, option_map};
 ghost use Rattle.std.specs.Prelude.{None, true, IfOk, IsSome, IsTrue, OnOk, OnErr};
 ghost use Rattle.std.specs.List.{AllByRecursion};
-ghost use Rattle.receive_state.specs.Layout.{encoding};
+ghost use Rattle.bcast_base.specs.Layout.{laid};
+ghost use Rattle.receive_state.specs.Layout.{encoding, fields_of, prefix_fields};
 ghost use Rattle.delegator_history.specs.Notices.{change};
 ghost use Rattle.delegator_history.specs.Snapshots.{Snapshot};
 ghost use Rattle.delegator_history.specs.Steps.{placed};
@@ -78,11 +79,20 @@ pub(crate) fn value_filled(
 ) -> Result<Octets, Memory>
     ensures { IfOk result (λ octets. octets ≡ encoding (received (status_seen status.now) slot.now)) }
 {
+    let mut out = begin_value(alloc, slot, status)?;
+    put_groups(&mut out, slot.wishes(), status.bits)?;
+    Ok(out)
+}
+
+/// The octets of that value before its subgroups.
+fn begin_value(alloc: Global, slot: &Slot, status: &Status<'_>) -> Result<Octets, Memory>
+    ensures prefix { IfOk result (λ octets. octets ≡ laid (prefix_fields (fields_of (received (status_seen status.now) slot.now))
+        (length slot.now.wanted.wishes))) }
+    ensures fits { EntryFits slot.now }
+{
     let wishes = slot.wishes();
     let prefix = prefix_of(alloc, slot, status);
-    let mut out = begin_state(alloc, &prefix, wishes.count() as u8, room_for(wishes))?;
-    put_groups(&mut out, wishes, status.bits)?;
-    Ok(out)
+    begin_state(alloc, &prefix, wishes.count() as u8, room_for(wishes))
 }
 
 /// The state of a slot that is filled, without its subgroups.
@@ -204,8 +214,7 @@ fn note_filled(
     if before.is_synced != after.is_synced {
         return put_notice(waiting, slot, now);
     }
-    let was = value_filled(alloc, filled, before)?;
-    note(waiting, slot, &was, now)
+    note_compared(alloc, waiting, slot, filled, before, now)
 }
 
 /// Puts the notice of a slot at the end, where its value is then this, and was another: the sink stood so to it. After want of
@@ -244,6 +253,22 @@ fn note_refilled(
     if ends_otherwise(&now, filled) {
         return put_notice(waiting, slot, now);
     }
+    note_compared(alloc, waiting, slot, filled, before, now)
+}
+
+/// The same, where the value that it had is made and looked at.
+fn note_compared(
+    alloc: Global,
+    waiting: &mut VecDeque<Notice>,
+    slot: u8,
+    filled: &Slot,
+    before: &Status<'_>,
+    now: Octets,
+) -> Result<(), Memory>
+    ensures ok { OnOk result (waiting.new.items ≡ waiting.old.items ++ change slot
+        (encoding (received (status_seen before.now) filled.now)) now) }
+    ensures err { OnErr result (waiting.new.items ≡ waiting.old.items) }
+{
     let was = value_filled(alloc, filled, before)?;
     note(waiting, slot, &was, now)
 }

@@ -44,11 +44,8 @@ pub handed_more : {X : Type 0} (f : X → X) (g : X → List Handed) (xs ys : Li
     → HandsOver (g (get_or ys i x)) between new result → now ≡ new → after ≡ result
     → HandsOver (flat_map g (take (i + 1) xs)) old now after
 handed_more f g xs ys i x old between new now before result after below step is u ok first second same ends =
-    grind (
-      arith,
-      owed_more g xs i x below (item_is f xs ys i x below step is),
-      hands_more (flat_map g (take i xs)) (g x) old between new result (subst (HandsOver (flat_map g (take i xs)) old between) ok first) (subst (λ y. HandsOver (g y) between new result) (sym is) second),
-    )
+    rw (owed_more g xs i x below (item_is f xs ys i x below step is), same, ends)
+    (hands_more (flat_map g (take i xs)) (g x) old between new result (subst (HandsOver (flat_map g (take i xs)) old between) ok first) (subst (λ y. HandsOver (g y) between new result) (sym is) second))
 
 -- and after a refusal
 pub handed_past : {X : Type 0} (f : X → X) (g : X → List Handed) (xs ys : List X) (i : ℕ) (x : X) (old between now : List Handed)
@@ -56,11 +53,8 @@ pub handed_past : {X : Type 0} (f : X → X) (g : X → List Handed) (xs ys : Li
     → (fault : TakerFault) → before ≡ Err fault → HandsOver (flat_map g (take i xs)) old between before
     → now ≡ between → after ≡ before → HandsOver (flat_map g (take (i + 1) xs)) old now after
 handed_past f g xs ys i x old between now before after below step is fault err first same ends =
-    grind (
-      arith,
-      owed_more g xs i x below (item_is f xs ys i x below step is),
-      hands_past (flat_map g (take i xs)) (g x) old between fault (subst (HandsOver (flat_map g (take i xs)) old between) err first),
-    )
+    rw (owed_more g xs i x below (item_is f xs ys i x below step is), same, ends, err)
+    (hands_past (flat_map g (take i xs)) (g x) old between fault (subst (HandsOver (flat_map g (take i xs)) old between) err first))
 
 -- the counts after one turn more
 pub caused_more : (old between new now : Counts) (before result after : Result (Unit {0}) TakerFault) (u : Unit {0}) → before ≡ Ok u

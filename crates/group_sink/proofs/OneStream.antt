@@ -62,21 +62,8 @@ all_either own plainly xs ys first second = grind arith
 
 all_at_close : (stay : Stay) (calls : List stays.Call) → AllOf stay.bis (units_at_close stay calls)
 all_at_close stay calls =
-    grind (
-      arith,
-      all_either,
-      eqb,
-      units_of,
-      opened,
-      gained,
-      all_slots,
-      range_with_len,
-      all_drop,
-      length,
-      decided,
-      all_tokens,
-      closed_tokens,
-    )
+    all_either stay.bis (eqb stay.info.framing 0) (units_of stay calls (opened stay calls)) (gained stay calls) (all_slots stay calls (opened stay calls) _)
+    (all_drop stay.bis (length (decided stay calls)) (decided stay (stays.close ∷ calls)) (all_tokens stay.info.max_sdu stay.bis (closed_tokens stay (stays.close ∷ calls))))
 
 of_units : (over : Bool) (bis : ℕ) (stay : Stay) (calls : List stays.Call)
     → of_stream bis (cond over (units_at_close stay calls) []) ≡ cond (eqb stay.bis bis) (cond over (units_at_close stay calls) []) []

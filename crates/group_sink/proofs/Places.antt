@@ -78,18 +78,13 @@ range_same f g test start (suc n) same =
 pub stream_set : {X : Type 0} (f g : ℕ → X) (set_of bis : ℕ) → 1 ≤ bis → bis ≤ 31 → is_in set_of bis ≡ true
     → ((c : ℕ) → c ≢ bis → f c ≡ g c) → set (map f (streams_of set_of)) (place_in set_of bis) (g bis) ≡ map g (streams_of set_of)
 stream_set f g set_of bis least greatest taken same =
-    grind (
-      arith,
-      below set_of bis,
-      above set_of bis,
-      cond-true (is_in set_of bis) (length (below set_of bis)) 31 taken,
-      streams_split set_of bis least greatest taken,
-      map-append f (below set_of bis) (bis ∷ (above set_of bis)),
-      set_at (map f (below set_of bis)) (f bis) (map f (above set_of bis)) (g bis) (length (below set_of bis)) (length-map (below set_of bis) f),
-      range_same f g (is_in set_of) 1 (bis - 1) (λ c from under. same c (λ is. absurd (omega (arith, is, from, under, least)))),
-      range_same f g (is_in set_of) (bis + 1) (31 - bis) (λ c from under. same c (λ is. absurd (omega (arith, is, from)))),
-      map-append g (below set_of bis) (bis ∷ (above set_of bis)),
-    )
+    let parts = streams_split set_of bis least greatest taken in
+    let first = range_same f g (is_in set_of) 1 (bis - 1) (λ c from under. same c (λ is. absurd (omega (arith, is, from, under, least)))) in
+    let last = range_same f g (is_in set_of) (bis + 1) (31 - bis) (λ c from under. same c (λ is. absurd (omega (arith, is, from)))) in
+    (λ i. set (map f (parts i)) (cond-true (is_in set_of bis) (length (below set_of bis)) 31 taken i) (g bis))
+    ∙ ap (λ xs. set xs (length (below set_of bis)) (g bis)) (map-append f (below set_of bis) (bis ∷ above set_of bis))
+    ∙ set_at (map f (below set_of bis)) (f bis) (map f (above set_of bis)) (g bis) (length (below set_of bis)) (length-map (below set_of bis) f)
+    ∙ (λ i. first i ++ g bis ∷ last i) ∙ sym (map-append g (below set_of bis) (bis ∷ above set_of bis)) ∙ ap (map g) (sym parts)
 
 pub streams_same : {X : Type 0} (f g : ℕ → X) (set bis : ℕ) → is_in set bis ≡ false → ((c : ℕ) → c ≢ bis → f c ≡ g c)
     → map f (streams_of set) ≡ map g (streams_of set)
@@ -146,22 +141,10 @@ pub places_more : {X : Type 0} (f : ℕ → X) (set_of index : ℕ) (streams : L
     → streams ≡ map f (below set_of index) → is_in set_of index ≡ true
     → places ≡ places_before set_of index → more ≡ set places (index - 1) (length streams) → more ≡ places_before set_of (index + 1)
 places_more f set_of index streams places more least greatest is taken before written =
-    grind (
-      arith,
-      is_in,
-      length,
-      place_in,
-      length-map,
-      cond-true,
-      set,
-      before_one,
-      set_at,
-      map,
-      range_with_len,
-      replicate,
-      length-map-range_with_len,
-      places_with,
-    )
+    let count : length streams ≡ place_in set_of index = ap length is ∙ length-map (below set_of index) f ∙ sym (cond-true (is_in set_of index) (length (below set_of index)) 31 taken) in
+    written ∙ (λ i. set ((before ∙ before_one set_of index greatest) i) (index - 1) (count i))
+    ∙ set_at (map (place_in set_of) (range_with_len 1 (index - 1))) 31 (replicate (31 - index) 31) (place_in set_of index) (index - 1) (length-map-range_with_len (place_in set_of) 1 (index - 1))
+    ∙ places_with set_of index least
 
 -- and of one whose stream isn't
 pub streams_kept : {X : Type 0} (f : ℕ → X) (set index : ℕ) (streams : List X) → 1 ≤ index

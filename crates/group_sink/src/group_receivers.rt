@@ -68,14 +68,8 @@ impl GroupReceivers {
         ensures bounds { Bounds self.old.info }
     {
         let place = self.place(bis);
-        hear_in(
-            &mut self.streams,
-            place,
-            &self.numbers,
-            event,
-            subevent,
-            pdu,
-        )
+        let number = self.numbers.number(event, subevent);
+        hear_in(&mut self.streams, place, number, pdu)
     }
 
     /// Hears what the subevents of an event of a stream bring.
@@ -106,7 +100,8 @@ impl GroupReceivers {
         ensures greatest { bis ≤ 31 }
     {
         let place = self.place(bis);
-        answer_in(&self.streams, place, &self.numbers, event, subevent, pdu)
+        let number = self.numbers.number(event, subevent);
+        answer_in(&self.streams, place, number, pdu)
     }
 
     /// Closes the open event of each stream where it is at most this event.

@@ -2,7 +2,6 @@
 ghost use Rattle.std.specs.Prelude.{◌≡◌, ◌≤◌, ◌<◌, ◌^◌, Some, slice_get};
 ghost use Rattle.unit_outlets.specs.Handed.{Caused, HandsOver};
 ghost use Rattle.group_sink.specs.State.Steps.{all_heard_at, answer_at, hear_at, heard_at, owed_by, tick_at};
-ghost use Rattle.group_sink.specs.Streams.{number_of};
 
 use crate::numbers::Numbers;
 use crate::receiver::Receiver;
@@ -11,23 +10,19 @@ use isoal_base::Hearing;
 use radio_schedule::StreamEvent;
 use unit_outlets::{TakerFault, UnitTaker};
 
-/// Hears a PDU in a subevent of an event, where a receiver stands at the place.
+/// Hears a PDU under its payload number, where it has one and a receiver stands at the place.
 pub(crate) fn hear_in(
     streams: &mut Vec<Receiver>,
     place: usize,
-    numbers: &Numbers,
-    event: u64,
-    subevent: u8,
+    number: Option<u64>,
     pdu: &[u8],
 ) -> Hearing
-    requires { event ≤ 2 ^ 39 }
-    ensures answer { result ≡ answer_at (number_of numbers.now.group.info event subevent) pdu.now (slice_get streams.old.items place) }
-    ensures step { streams.new.items
-        ≡ heard_at (number_of numbers.now.group.info event subevent) pdu.now place (slice_get streams.old.items place) streams.old.items }
+    ensures answer { result ≡ answer_at number pdu.now (slice_get streams.old.items place) }
+    ensures step { streams.new.items ≡ heard_at number pdu.now place (slice_get streams.old.items place) streams.old.items }
 {
     match streams.get_mut(place) {
         None => Hearing::NotTaken,
-        Some(receiver) => hear_under(receiver, numbers.number(event, subevent), pdu),
+        Some(receiver) => hear_under(receiver, number, pdu),
     }
 }
 
@@ -61,21 +56,18 @@ pub(crate) fn hear_event_in<E: StreamEvent>(
     }
 }
 
-/// What would be answered to a PDU in a subevent of an event, where a receiver stands at the place.
+/// What would be answered to a PDU under its payload number, where it has one and a receiver stands at the place.
 pub(crate) fn answer_in(
     streams: &Vec<Receiver>,
     place: usize,
-    numbers: &Numbers,
-    event: u64,
-    subevent: u8,
+    number: Option<u64>,
     pdu: &[u8],
 ) -> Hearing
-    requires { event ≤ 2 ^ 39 }
-    ensures { result ≡ answer_at (number_of numbers.now.group.info event subevent) pdu.now (slice_get streams.now.items place) }
+    ensures { result ≡ answer_at number pdu.now (slice_get streams.now.items place) }
 {
     match streams.get(place) {
         None => Hearing::NotTaken,
-        Some(receiver) => match numbers.number(event, subevent) {
+        Some(receiver) => match number {
             None => Hearing::NoNumber,
             Some(number) => Hearing::Heard(receiver.would_answer(number, pdu)),
         },

@@ -148,10 +148,10 @@ impl Links {
         ensures terms { self.new.terms ≡ self.old.terms }
     {
         match link {
-            0 => self.first = place,
-            1 => self.second = place,
-            2 => self.third = place,
-            3 => self.fourth = place,
+            0 => self.first.set(place),
+            1 => self.second.set(place),
+            2 => self.third.set(place),
+            3 => self.fourth.set(place),
             _ => {}
         }
     }

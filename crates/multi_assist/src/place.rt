@@ -38,6 +38,13 @@ impl Place {
         }
     }
 
+    /// Puts another in its place.
+    pub(crate) fn set(&mut self, place: Place)
+        ensures { self.new ≡ place }
+    {
+        *self = place;
+    }
+
     /// Whether an assistant is on it.
     pub(crate) fn is_joined(&self) -> bool
         ensures { result ≡ is_some (link_of self.now) }

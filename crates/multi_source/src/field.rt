@@ -110,11 +110,7 @@ impl Field {
             Ok(configured) => configured,
             Err(kept) => return Err(field_fault(kept.fault)),
         };
-        let twin = if s == 0 {
-            &self.other_begun
-        } else {
-            &self.one_begun
-        };
+        let twin = self.since(1 - s);
         if is_twin(identity, twin) {
             return Err(FieldFault::IdentTwice);
         }
@@ -178,12 +174,7 @@ impl Field {
         ensures err { IfErr result (λ fault. (begun : HeardSince) → begun_of self.now s ≡ Some begun
             → fault_at begun.air back bis subevent ≡ Some fault) }
     {
-        let begun = if s == 0 {
-            &self.one_begun
-        } else {
-            &self.other_begun
-        };
-        match begun {
+        match self.since(s) {
             Some(begun) => begun.air.heard_at(back, bis, subevent),
             None => Err(AirFault::NotOnAir),
         }
@@ -198,9 +189,9 @@ impl Field {
         ensures others { OthersStay s self.old self.new }
     {
         if s == 0 {
-            self.one = None;
+            clear(&mut self.one);
         } else {
-            self.other = None;
+            clear(&mut self.other);
         }
     }
 
@@ -222,6 +213,17 @@ impl Field {
         self.sinks[usize::from(sink)]
     }
 
+    /// Who a source is and what it sent, since its start.
+    fn since(&self, s: u8) -> &Option<Begun>
+        ensures { result.now ≡ begun_of self.now s }
+    {
+        if s == 0 {
+            &self.one_begun
+        } else {
+            &self.other_begun
+        }
+    }
+
     /// Puts a source in its place.
     fn place(&mut self, s: u8, source: SourceStreaming, begun: Begun)
         requires { s ≤ 1 }
@@ -230,13 +232,32 @@ impl Field {
         ensures others { OthersStay s self.old self.new }
     {
         if s == 0 {
-            self.one = Some(source);
-            self.one_begun = Some(begun);
+            fill(&mut self.one, &mut self.one_begun, source, begun);
         } else {
-            self.other = Some(source);
-            self.other_begun = Some(begun);
+            fill(&mut self.other, &mut self.other_begun, source, begun);
         }
     }
+}
+
+/// Takes a source from its place.
+fn clear(place: &mut Option<SourceStreaming>)
+    ensures { place.new ≡ None }
+{
+    *place = None;
+}
+
+/// Puts a source in its place, and what it sent beside it.
+fn fill(
+    place: &mut Option<SourceStreaming>,
+    since: &mut Option<Begun>,
+    source: SourceStreaming,
+    begun: Begun,
+)
+    ensures source { place.new ≡ Some source }
+    ensures begun { since.new ≡ Some begun }
+{
+    *place = Some(source);
+    *since = Some(begun);
 }
 
 /// Performs the next event of a source and puts it on its air.

@@ -61,9 +61,6 @@ read_end prefix count i rest total le so_far = grind (arith, nothing_left)
 abbrev pub done : {A : Type 0} → A → Result A ℕ
 done x = Ok x
 
-abbrev some_number : ℕ → List ℕ → Option (ℕ × List ℕ)
-some_number n rest = Some (n, rest)
-
 encoded : (b : Bool) (value rest v r : List ℕ) → cond {A = Option (List ℕ × List ℕ)} b None (Some (value, rest)) ≡ Some (v, r)
     → cond {A = Option (ℕ × List ℕ)} b None (Some (sum_from 0 value, rest)) ≡ Some (sum_from 0 v, r)
 encoded b value rest v r e = grind (arith, some_pair_parts, sum_from)

@@ -55,3 +55,18 @@ pub(crate) fn octets_of<'a>(
     }
     Ok(rest.split_at(k))
 }
+
+// As many octets there as the array has.
+pub(crate) fn array_of<'a, const N: usize>(
+    whole: &[u8],
+    rest: &'a [u8],
+) -> Result<([u8; N], &'a [u8]), ShortAt>
+    requires { length rest.now ≤ length whole.now }
+    ensures field { ReadsAs (λ x. (x.0, x.1.now)) (λ e. e.place) result (field_in whole.now (octets_in N) rest.now) }
+    ensures within { IfOk result (λ x. length x.1.now ≤ length whole.now) }
+{
+    let (octets, after) = octets_of(whole, rest, N)?;
+    let mut array = [0; N];
+    array.copy_from_slice(octets);
+    Ok((array, after))
+}

@@ -8,7 +8,7 @@ ghost use Rattle.receive_state.specs.declared.fault.StateFault.TheVariants.{Memo
 ghost use Rattle.receive_state.specs.declared.state.ReceiveState.{ReceiveState};
 
 use crate::fault::StateFault;
-use crate::fields::{ShortAt, octet_of, octets_of};
+use crate::fields::{ShortAt, array_of, octet_of, octets_of};
 use crate::groups::{groups_end, read_groups};
 use crate::state::{Encryption, GroupStates, ReceiveState};
 use bcast_base::{Memory, place_of, reserved_subgroup};
@@ -27,18 +27,18 @@ const BIG_ENCRYPTION_PLACE: usize = 13;
 
 // What tells the source of a receive state.
 #[derive(Clone, Copy)]
-struct LentSource<'a> {
+struct LentSource {
     id: u8,
     address_type: u8,
-    address: &'a [u8],
+    address: [u8; 6],
     sid: u8,
-    broadcast_id: &'a [u8],
+    broadcast_id: [u8; 3],
 }
 
 // A receive state whose subgroups are not read yet. The Bad_Code is empty where none is told.
 #[derive(Clone, Copy)]
 struct LentState<'a> {
-    source: LentSource<'a>,
+    source: LentSource,
     pa_sync_state: u8,
     encryption: u8,
     bad_code: &'a [u8],
@@ -122,14 +122,14 @@ fn read_state(
 // What tells the source, and the octets behind it, or the place of the field that passes the end.
 #[inline(always)]
 #[tactic(auto, unfolding(crate::specs::Reading::source_in))]
-fn source_at(from: &[u8]) -> Result<(LentSource<'_>, &[u8]), ShortAt>
+fn source_at(from: &[u8]) -> Result<(LentSource, &[u8]), ShortAt>
     ensures source { ReadsAs (λ x. (
       record {
         source_id = x.0.id;
         address_type = x.0.address_type;
-        address = x.0.address.now;
+        address = x.0.address;
         sid = x.0.sid;
-        broadcast_id = x.0.broadcast_id.now;
+        broadcast_id = x.0.broadcast_id;
         pa_sync_state = 0;
         encryption = 0;
         bad_code = [];
@@ -137,15 +137,13 @@ fn source_at(from: &[u8]) -> Result<(LentSource<'_>, &[u8]), ShortAt>
       },
       x.1.now,
     )) (λ e. e.place) result (source_in from.now) }
-    ensures address { IfOk result (λ x. length x.0.address.now ≡ 6) }
-    ensures broadcast_id { IfOk result (λ x. length x.0.broadcast_id.now ≡ 3) }
     ensures within { IfOk result (λ x. length x.1.now ≤ length from.now) }
 {
     let (id, rest) = octet_of(from, from)?;
     let (address_type, rest) = octet_of(from, rest)?;
-    let (address, rest) = octets_of(from, rest, 6)?;
+    let (address, rest) = array_of(from, rest)?;
     let (sid, rest) = octet_of(from, rest)?;
-    let (broadcast_id, rest) = octets_of(from, rest, 3)?;
+    let (broadcast_id, rest) = array_of(from, rest)?;
     let source = LentSource {
         id,
         address_type,
@@ -163,9 +161,9 @@ fn head_at(from: &[u8]) -> Result<LentState<'_>, ShortAt>
       record {
         source_id = l.source.id;
         address_type = l.source.address_type;
-        address = l.source.address.now;
+        address = l.source.address;
         sid = l.source.sid;
-        broadcast_id = l.source.broadcast_id.now;
+        broadcast_id = l.source.broadcast_id;
         pa_sync_state = l.pa_sync_state;
         encryption = l.encryption;
         bad_code = l.bad_code.now;
@@ -174,8 +172,6 @@ fn head_at(from: &[u8]) -> Result<LentState<'_>, ShortAt>
       l.count,
       l.groups.now,
     )) (λ e. e.place) result (head_in from.now) }
-    ensures address { IfOk result (λ l. length l.source.address.now ≡ 6) }
-    ensures broadcast_id { IfOk result (λ l. length l.source.broadcast_id.now ≡ 3) }
     ensures bad_code { IfOk result (λ l. length l.bad_code.now ≡ code_width l.encryption) }
     ensures within { IfOk result (λ l. length l.groups.now ≤ length from.now) }
 {
@@ -225,8 +221,6 @@ fn own_state(
     spare: &mut GroupStates,
     lent: &LentState<'_>,
 ) -> Result<ReceiveState, Memory>
-    requires address { length lent.now.source.address.now ≡ 6 }
-    requires broadcast_id { length lent.now.source.broadcast_id.now ≡ 3 }
     requires bad_code { length lent.now.bad_code.now ≡ code_width lent.now.encryption }
     requires encryption { lent.now.encryption ≤ 3 }
     requires groups { is_some (subgroups_in lent.now.count lent.now.groups.now) ≡ true }
@@ -235,9 +229,9 @@ fn own_state(
     ensures head { IfOk result (λ state. state ≡ record {
       source_id = lent.now.source.id;
       address_type = lent.now.source.address_type;
-      address = lent.now.source.address.now;
+      address = lent.now.source.address;
       sid = lent.now.source.sid;
-      broadcast_id = lent.now.source.broadcast_id.now;
+      broadcast_id = lent.now.source.broadcast_id;
       pa_sync_state = lent.now.pa_sync_state;
       encryption = encryption_of lent.now.encryption lent.now.bad_code.now;
       groups = state.groups;
@@ -250,16 +244,14 @@ fn own_state(
 // The state of these fields and subgroups.
 #[inline(always)]
 fn with_groups(lent: &LentState<'_>, groups: GroupStates) -> ReceiveState
-    requires address { length lent.now.source.address.now ≡ 6 }
-    requires broadcast_id { length lent.now.source.broadcast_id.now ≡ 3 }
     requires bad_code { length lent.now.bad_code.now ≡ code_width lent.now.encryption }
     requires encryption { lent.now.encryption ≤ 3 }
     ensures { result ≡ record {
       source_id = lent.now.source.id;
       address_type = lent.now.source.address_type;
-      address = lent.now.source.address.now;
+      address = lent.now.source.address;
       sid = lent.now.source.sid;
-      broadcast_id = lent.now.source.broadcast_id.now;
+      broadcast_id = lent.now.source.broadcast_id;
       pa_sync_state = lent.now.pa_sync_state;
       encryption = encryption_of lent.now.encryption lent.now.bad_code.now;
       groups = groups;
@@ -268,24 +260,13 @@ fn with_groups(lent: &LentState<'_>, groups: GroupStates) -> ReceiveState
     ReceiveState {
         source_id: lent.source.id,
         address_type: lent.source.address_type,
-        address: array_of(lent.source.address),
+        address: lent.source.address,
         sid: lent.source.sid,
-        broadcast_id: array_of(lent.source.broadcast_id),
+        broadcast_id: lent.source.broadcast_id,
         pa_sync_state: lent.pa_sync_state,
         encryption: own_encryption(lent.encryption, lent.bad_code),
         groups,
     }
-}
-
-// The octets as an array; there are so many.
-fn array_of<const N: usize>(octets: &[u8]) -> [u8; N]
-    requires { length octets.now ≡ N }
-    ensures { result ≡ octets.now }
-{
-    let Some(array) = octets.first_chunk::<N>() else {
-        unreachable!()
-    };
-    *array
 }
 
 // What is told of the key.

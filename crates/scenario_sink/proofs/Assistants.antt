@@ -78,24 +78,21 @@ pub told_holds : (slots : ℕ) (mtu : Option ℕ) (acts : Acts) (writes : List (
     → ((slots : ℕ) (taken : List assistants.Call) → StandsFor slots taken on.assistant → StandsFor slots (assistants.notified notice.slot notice.value ∷ taken) after)
     → LinkHolds slots mtu acts writes on → LinkHolds slots mtu (links.notified ∷ acts) writes (record { waiting = drop 1 on.waiting; assistant = after })
 told_holds slots mtu acts writes on first rest notice after waits is are stands holds =
-    grind (
-      arith,
-      heard_view,
-      language,
-      unwrap_or,
-      told_by,
-      told_view,
-      waiting_of,
-      heard_wait,
-      waits_of,
-      told_wait,
-      drop,
-      map,
-      delivered,
-      drop_one,
-      delivered_of,
-      notices_of,
-    )
+    let view : ℕ → Option ReceiveState = λ slot. view_of (language mtu) slot acts in
+    let wait : ℕ → Bool = λ slot. waits_of (language mtu) slot acts in
+    record {
+      taken = assistants.notified notice.slot notice.value ∷ holds.taken;
+      assistant = stands slots holds.taken holds.assistant;
+      heard = (are, holds.heard);
+      mtu_is = holds.mtu_is;
+      writes_are = holds.writes_are;
+      views = λ slot. heard_view mtu (assistants.mtu_of holds.taken) slot notice.slot notice.value (known.view_of slot holds.taken) (view slot) holds.mtu_is (holds.views slot)
+          ∙ ap (λ given. unwrap_or given (view slot)) (ap (λ (n : Notice). told_by (language mtu) slot n.slot n.value) is ∙ sym (told_view mtu slot first rest (waiting_of acts) waits));
+      reads = λ slot. heard_wait mtu (assistants.mtu_of holds.taken) slot notice.slot notice.value (known.waits_of slot holds.taken) (wait slot) holds.mtu_is (holds.reads slot)
+          ∙ ap (λ given. unwrap_or given (wait slot)) (ap (λ (n : Notice). links.asked_by (language mtu) slot n.slot n.value) is ∙ sym (told_wait mtu slot first rest (waiting_of acts) waits));
+      notices = ap (drop 1) holds.notices ∙ ap (λ ns. drop 1 (map (delivered mtu) ns)) waits
+          ∙ ap (map (delivered mtu)) (sym (drop_one (delivered_of acts) (notices_of acts) ∙ ap (drop 1) waits));
+    }
 
 -- ---- reads
 

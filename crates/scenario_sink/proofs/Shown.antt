@@ -17,6 +17,3 @@ slot_shown history sink slot one other text mid told first second put more =
 pub there : (made : Settings) (calls_made : List Call) (slot : ℕ) (octets : List ℕ) → slot < made.setup.slots → octets ≡ (stated made calls_made slot).value
     → Some octets ≡ state_where (Some made) calls_made slot
 there made calls_made slot octets below is = grind (arith, cond-true, ltb, stated, lt-ltb)
-
-pub not_there : (made : Settings) (calls_made : List Call) (slot : ℕ) → made.setup.slots ≤ slot → None ≡ state_where (Some made) calls_made slot
-not_there made calls_made slot above = sym (cond-false (ltb slot made.setup.slots) (Some (stated made calls_made slot).value) None (le-ltb slot made.setup.slots above))

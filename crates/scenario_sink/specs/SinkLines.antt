@@ -31,3 +31,25 @@ IsSinkLine (ARead sink link) = Unit {0}
 IsSinkLine (ADrain sink link) = Unit {0}
 IsSinkLine (AShow sink link) = Unit {0}
 IsSinkLine _ = ⊥
+
+-- nothing of it is kept: no octets, and no operation that has any
+abbrev pub IsLent : Step → Type 0
+IsLent (Pac sink codec caps metadata) = ⊥
+IsLent (Write sink octets) = ⊥
+IsLent (AWrite sink link octets) = ⊥
+IsLent (Add sink op) = ⊥
+IsLent (Modify sink op) = ⊥
+IsLent _ = Unit {0}
+
+-- the lines of what waits on a link, and of what its assistant knows
+abbrev pub IsLinkLine : Step → Type 0
+IsLinkLine (Serve sink) = Unit {0}
+IsLinkLine (Tell sink) = Unit {0}
+IsLinkLine (Read sink) = Unit {0}
+IsLinkLine (Drain sink) = Unit {0}
+IsLinkLine (AServe sink link) = Unit {0}
+IsLinkLine (ATell sink link) = Unit {0}
+IsLinkLine (ARead sink link) = Unit {0}
+IsLinkLine (ADrain sink link) = Unit {0}
+IsLinkLine (AShow sink link) = Unit {0}
+IsLinkLine _ = ⊥

@@ -1,5 +1,5 @@
 /// The source that a line means.
-#[derive(Clone, Copy, Debug)]
+#[derive(Clone, Copy)]
 pub struct Origin {
     /// 0 or 1.
     pub number: u8,

@@ -68,8 +68,8 @@ impl LinkedSink {
             ahead: Limits::VERSION_1.ahead,
         };
         a_step_notifies_each_link();
-        let delegator = delegator_with(alloc, streams, slots, limits, mtu)?;
         let links = Links::new(alloc, slots, mtu)?;
+        let delegator = delegator_with(alloc, streams, slots, limits, mtu)?;
         Ok(LinkedSink {
             alloc,
             delegator,

@@ -1,7 +1,7 @@
 //! What is put behind the writes that wait on a link.
-ghost use Rattle.std.specs.Prelude.{◌≡◌, ◌∷◌, ℕ, List, true, None, Some, OnOk};
+ghost use Rattle.std.specs.Prelude.{◌≡◌, ◌∷◌, ℕ, List, true, None, Some, IfOk, OnOk};
 ghost use Rattle.std.specs.Option.{option_or};
-ghost use Rattle.bass_operations.specs.Layout.{MetadataFits, encoding, wishes_of};
+ghost use Rattle.bass_operations.specs.Layout.{IsLaid, MetadataFits, encoding, wishes_of};
 ghost use Rattle.scenario_text.specs.declared.step.Step.{Step};
 ghost use Rattle.sink_history.specs.Calls.{asked, is_joined};
 ghost use Rattle.sink_history.specs.History.{Source};
@@ -16,6 +16,7 @@ use crate::sink::LinkedSink;
 use bass_operations::{Operation, encode_operation};
 use bcast_base::{Memory, Octets, are_octets};
 use sink_history::links_law;
+use std::alloc::Global;
 use transcript_text::{Refusal, Stop};
 
 impl LinkedSink {
@@ -31,12 +32,12 @@ impl LinkedSink {
 
     /// `add`, `modify`, `remove` and `code`: puts an operation behind the writes that wait on link 0 (Broadcast Audio Scan Service
     /// 1.0, section 3.1.1).
-    pub(crate) fn operate(&mut self, op: &Operation) -> Result<(), Stop>
-        requires { MetadataFits (wishes_of op.now) }
+    pub(crate) fn operate(&mut self, op: Operation) -> Result<(), Stop>
+        requires { MetadataFits (wishes_of op) }
         ensures { (history : SinkHistory) → IsSink history self.old
-            → Quietly None (Unit {0}) history (stayed (asked 0 (encoding op.now) ∷ history.calls_made) history) self.new result }
+            → Quietly None (Unit {0}) history (stayed (asked 0 (encoding op) ∷ history.calls_made) history) self.new result }
     {
-        let octets = encode_operation(self.alloc, op)?;
+        let octets = octets_of(self.alloc, op)?;
         self.put_write(0, octets)?;
         Ok(())
     }
@@ -72,4 +73,12 @@ impl LinkedSink {
         self.put_write(link, octets)?;
         Ok(())
     }
+}
+
+/// The octets of an operation, which is given away.
+fn octets_of(alloc: Global, op: Operation) -> Result<Octets, Memory>
+    requires { MetadataFits (wishes_of op) }
+    ensures { IfOk result (λ octets. IsLaid op octets) }
+{
+    encode_operation(alloc, &op)
 }

@@ -3,9 +3,10 @@ ghost use Rattle.transcript_text.specs.CountedLines.{lines_of};
 ghost use Rattle.transcript_text.specs.Summary.{begins_unit as begins_unit_in, ends_lost as ends_lost_in, is_sum_line, none_counted};
 ghost use Rattle.transcript_text.specs.Summary.{summary_of, with_line, with_lines};
 
+use crate::word::put_line;
 use bcast_base::{Memory, Octets};
 use memchr::memchr;
-use scenario_words::{Word, put_words};
+use scenario_words::Word;
 use std::alloc::Global;
 
 /// What the lines of a transcript say of its units.
@@ -62,9 +63,8 @@ impl Counts {
         ensures { IfOk result (λ text. text ≡ summary_of events self.now) }
     {
         let mut text = Octets::new(alloc);
-        put_words(&mut text, b"events", &[Word::Number(u64::from(events))])?;
-        text.push(b'\n')?;
-        put_words(
+        put_line(&mut text, b"events", &[Word::Number(u64::from(events))])?;
+        put_line(
             &mut text,
             b"units",
             &[
@@ -73,7 +73,6 @@ impl Counts {
                 Word::Number(self.lost),
             ],
         )?;
-        text.push(b'\n')?;
         text.append(self.sums.as_slice())?;
         Ok(text)
     }

@@ -63,21 +63,27 @@ pub fn put_train_heard(text: &mut Octets, sink: u8, heard: TrainHeard) -> Result
     }
 }
 
+/// The name of what a control PDU brings, and the number behind it.
+fn words_of(heard: ControlHeard) -> (&'static [u8], Option<u64>)
+    ensures { control_words heard ≡ result.0.now ∷ numbers result.1 }
+{
+    match heard {
+        ControlHeard::NotOnGroup => (b"NotOnGroup", None),
+        ControlHeard::Malformed(fault) => (b"Malformed", Some(u64::from(fault.number()))),
+        ControlHeard::NotControl => (b"NotControl", None),
+        ControlHeard::UnknownOpcode => (b"UnknownOpcode", None),
+        ControlHeard::ControlLength => (b"ControlLength", None),
+        ControlHeard::MapIgnored => (b"MapIgnored", None),
+        ControlHeard::Left => (b"Left", None),
+    }
+}
+
 /// Puts the line of what a PDU that a sink heard as a control PDU brings; behind Malformed stands the number of the fault.
 ///
 /// After Memory a part of the line may stand at the end of the text.
 pub fn put_control_heard(text: &mut Octets, sink: u8, heard: ControlHeard) -> Result<(), Memory>
     ensures { OnOk result (text.new ≡ text.old ++ sink_line sink (control_words heard)) }
 {
-    match heard {
-        ControlHeard::NotOnGroup => put_sink(text, sink, b"NotOnGroup", None),
-        ControlHeard::Malformed(fault) => {
-            put_sink(text, sink, b"Malformed", Some(u64::from(fault.number())))
-        }
-        ControlHeard::NotControl => put_sink(text, sink, b"NotControl", None),
-        ControlHeard::UnknownOpcode => put_sink(text, sink, b"UnknownOpcode", None),
-        ControlHeard::ControlLength => put_sink(text, sink, b"ControlLength", None),
-        ControlHeard::MapIgnored => put_sink(text, sink, b"MapIgnored", None),
-        ControlHeard::Left => put_sink(text, sink, b"Left", None),
-    }
+    let (name, number) = words_of(heard);
+    put_sink(text, sink, name, number)
 }

@@ -1,5 +1,5 @@
 /// How a scenario names a link: what the lines of the link begin with.
-#[derive(Clone, Copy, Debug, PartialEq, Eq)]
+#[derive(Clone, Copy)]
 pub enum Label {
     /// The lines of link 0 of a sink, which name the sink alone.
     Plain { sink: u8 },

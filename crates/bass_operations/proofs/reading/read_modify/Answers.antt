@@ -1,40 +1,29 @@
-use Rattle.bass_operations.proofs.Prelude.{arith, sym, ◌∙◌, err_from_is_err_and}
-use Rattle.bass_operations.proofs.Read.{modify_no_head, modify_no_wishes, modify_head_fault, modify_wishes_fault, modify_is_operation, modify_wants, modify_done, modify_tail, reserved, unreserved}
+use Rattle.std.specs.Option.{option_or}
+use Rattle.bass_operations.proofs.Prelude.{arith, sym, ◌∙◌, ap, err_from_is_err_and, reserved_in}
+use Rattle.bass_operations.specs.Reading.{wishes_in}
+use Rattle.bass_operations.specs.Scanning.{twice_in}
+use Rattle.bass_operations.proofs.Read.{behind, modify_no_head, modify_is, modify_wants, modify_tail, finds, done}
 use Rattle.bass_operations.proofs.reading.read_modify.Goals as goal
 
 pub returns-in_default-clause-exact : goal.returns-in_default-clause-exact
 returns-in_default-clause-exact c = modify_no_head c.args.rest.now c.in_default.ensures
 
-pub returns-then-not-are_wishes-clause-exact : goal.returns-then-not-are_wishes-clause-exact
-returns-then-not-are_wishes-clause-exact c = modify_no_wishes c.args.rest.now c.in-Some.modify c.in-Some.count c.in-Some.subgroups.now c.in-Some.ensures (sym c.are_wishes.ensures ∙ c.if-not-are_wishes.true)
+pub wishes_behind-requires : goal.wishes_behind-requires
+wishes_behind-requires c = modify_tail c.args.from.now c.args.rest.now c.in-Some.modify c.in-Some.count c.in-Some.subgroups.now (λ i. omega (arith, c.type_inv.from i)) c.requires c.in-Some.ensures
 
-pub returns-then-modify-gt2-clause-exact : goal.returns-then-modify-gt2-clause-exact
-returns-then-modify-gt2-clause-exact c = modify_head_fault c.args.from.now c.args.rest.now c.in-Some.modify c.in-Some.count c.in-Some.subgroups.now 2 (λ i. omega (arith, c.type_inv.from i)) c.requires
-    c.in-Some.ensures (sym c.are_wishes.ensures ∙ c.if-not-are_wishes.false) (sym (reserved c.in-Some.modify.pa_sync c.if-modify-gt2.true))
-
-pub check_wishes-requires : goal.check_wishes-requires
-check_wishes-requires c = modify_tail c.args.from.now c.args.rest.now c.in-Some.modify c.in-Some.count c.in-Some.subgroups.now (λ i. omega (arith, c.type_inv.from i)) c.requires c.in-Some.ensures
-
-pub returns-in_err-check_wishes-clause-exact : goal.returns-in_err-check_wishes-clause-exact
-returns-in_err-check_wishes-clause-exact c =
+pub returns-in_err-modify-clause-exact : goal.returns-in_err-modify-clause-exact
+returns-in_err-modify-clause-exact c =
     let p = err_from_is_err_and c.from_residual.result c.from_residual.ensures.1 in
-    rw (p.1, p.2) (modify_wishes_fault c.args.from.now c.args.rest.now c.in-Some.modify c.in-Some.count c.in-Some.subgroups.now c.in_err-check_wishes.field-0.0
-    (λ i. omega (arith, c.type_inv.from i)) c.requires c.in-Some.ensures (sym c.are_wishes.ensures ∙ c.if-not-are_wishes.false)
-    (sym (unreserved c.in-Some.modify.pa_sync c.if-modify-gt2.false)) c.in_err-check_wishes.ensures)
+    rw (p.1, p.2) (finds _ _ _ _ _ c.in_err-modify.field-0.0 (modify_is c.args.from.now c.args.rest.now c.in-Some.modify c.in-Some.count c.in-Some.subgroups.now (λ i. omega (arith, c.type_inv.from i)) c.requires c.in-Some.ensures)
+    (ap (λ r. behind (wishes_in c.in-Some.count c.in-Some.subgroups.now) (option_or r (reserved_in c.args.from.now c.in-Some.count c.in-Some.subgroups.now)) (twice_in 31 1 c.in-Some.count c.in-Some.subgroups.now)) (sym c.reserved_in_modify-reserved.ensures) ∙ c.in_err-modify.ensures.fault))
 
-pub returns-in_err-read_wishes-clause-exact : goal.returns-in_err-read_wishes-clause-exact
-returns-in_err-read_wishes-clause-exact c =
-    let p = err_from_is_err_and c.from_residual-in_err-read_wishes.result c.from_residual-in_err-read_wishes.ensures.1 in
-    rw (p.1, p.2) (modify_is_operation c.args.from.now c.args.rest.now c.in-Some.modify c.in-Some.count c.in-Some.subgroups.now (λ i. omega (arith, c.type_inv.from i)) c.requires
-    c.in-Some.ensures (sym c.are_wishes.ensures ∙ c.if-not-are_wishes.false) (sym (unreserved c.in-Some.modify.pa_sync c.if-modify-gt2.false)) c.in_ok-check_wishes.ensures)
-
-pub returns-in_err-read_wishes-clause-memory : goal.returns-in_err-read_wishes-clause-memory
-returns-in_err-read_wishes-clause-memory c =
-    let p = err_from_is_err_and c.from_residual-in_err-read_wishes.result c.from_residual-in_err-read_wishes.ensures.1 in
-    rw (p.1, p.2) (modify_wants c.args.from.now c.args.rest.now c.in-Some.modify c.in-Some.count c.in-Some.subgroups.now (λ i. omega (arith, c.type_inv.from i)) c.requires
-    c.in-Some.ensures (sym c.are_wishes.ensures ∙ c.if-not-are_wishes.false) (sym (unreserved c.in-Some.modify.pa_sync c.if-modify-gt2.false)) c.in_ok-check_wishes.ensures
-    c.in_err-read_wishes.ensures.memory)
+pub returns-in_err-modify-clause-memory : goal.returns-in_err-modify-clause-memory
+returns-in_err-modify-clause-memory c =
+    let p = err_from_is_err_and c.from_residual.result c.from_residual.ensures.1 in
+    rw (p.1, p.2) (modify_wants c.args.from.now c.args.rest.now c.in-Some.modify c.in-Some.count c.in-Some.subgroups.now c.in_err-modify.field-0.0 (λ i. omega (arith, c.type_inv.from i)) c.requires c.in-Some.ensures
+    (ap (λ r. behind (wishes_in c.in-Some.count c.in-Some.subgroups.now) (option_or r (reserved_in c.args.from.now c.in-Some.count c.in-Some.subgroups.now)) (twice_in 31 1 c.in-Some.count c.in-Some.subgroups.now)) (sym c.reserved_in_modify-reserved.ensures) ∙ c.in_err-modify.ensures.fault) c.in_err-modify.ensures.memory)
 
 pub returns-clause-exact : goal.returns-clause-exact
-returns-clause-exact c = modify_done c.args.from.now c.args.rest.now c.in-Some.modify c.in-Some.count c.in-Some.subgroups.now c.read_wishes.new.wishes (λ i. omega (arith, c.type_inv.from i)) c.requires
-    c.in-Some.ensures c.in_ok-read_wishes.ensures.gives (sym (unreserved c.in-Some.modify.pa_sync c.if-modify-gt2.false)) c.in_ok-check_wishes.ensures
+returns-clause-exact c =
+    done _ _ _ _ _ _ (modify_is c.args.from.now c.args.rest.now c.in-Some.modify c.in-Some.count c.in-Some.subgroups.now (λ i. omega (arith, c.type_inv.from i)) c.requires c.in-Some.ensures) c.in_ok-modify.ensures.wishes
+    (ap (λ r. behind (wishes_in c.in-Some.count c.in-Some.subgroups.now) (option_or r (reserved_in c.args.from.now c.in-Some.count c.in-Some.subgroups.now)) (twice_in 31 1 c.in-Some.count c.in-Some.subgroups.now)) (sym c.reserved_in_modify-reserved.ensures) ∙ c.in_ok-modify.ensures.faultless)

@@ -9,3 +9,6 @@ subevents-preserved c = record {
       (omega (arith, c.subevents.invariant.size, c.subevents-test.true, c.args.group.now.widths.nse)) (omega (arith, c.from.ensures))
       c.offset.ensures c.subevents.invariant.done;
 }
+
+pub bounds-offsets-from : goal.bounds-offsets-from
+bounds-offsets-from c = omega (arith, c.from.ensures, c.subevents-test.true, c.args.group.now.widths.nse)

@@ -50,7 +50,5 @@ returns-clause-lines g c =
 
 pub returns-clause-whole : goal.returns-clause-whole
 returns-clause-whole g c =
-    let whole : take c.loop-done.done c.args.octets.now ≡ c.args.octets.now = take_all c.loop-done.done c.args.octets.now (omega (arith, c.loop-done-test.false)) in
-    let first = g.W.ByteSink.contents c.self.inside.inner in
-    let last = g.W.ByteSink.contents c.loop-done.self-inside.inner in
-    rw (← c.self.view_is) (subst (Appends first last) whole c.loop-done.invariant.whole)
+    rw (← c.self.view_is) (subst (Appends (g.W.ByteSink.contents c.self.inside.inner) (g.W.ByteSink.contents c.loop-done.self-inside.inner))
+    (take_all c.loop-done.done c.args.octets.now (omega (arith, c.loop-done-test.false))) c.loop-done.invariant.whole)

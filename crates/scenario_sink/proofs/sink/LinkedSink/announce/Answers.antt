@@ -1,4 +1,4 @@
-use Rattle.scenario_sink.proofs.Prelude.{◌++◌, ◌∙◌, refl, sym, ap, subst, err_from_is_err_and, answer_of, outcome_by, snapshot_in, sink_line, train_line, train_words, IsSink, arith}
+use Rattle.scenario_sink.proofs.Prelude.{◌++◌, ◌∙◌, refl, sym, ap, subst, err_from_is_err_and, answer_of, outcome_by, snapshot_in, sink_line, train_line, train_words, IsSink}
 use Rattle.scenario_sink.proofs.Printing.{two_put}
 use Rattle.scenario_sink.proofs.Trained.{after_train, announced_train}
 use Rattle.scenario_sink.proofs.sink.LinkedSink.announce.Goals as goal
@@ -17,10 +17,10 @@ returns c source history from announced lives =
     )
 
 pub returns-in_err-put_train : goal.returns-in_err-put_train
-returns-in_err-put_train c source history from announced lives = grind (arith, err_from_is_err_and)
+returns-in_err-put_train c source history from announced lives = let p = err_from_is_err_and c.from_residual.result c.from_residual.ensures.1 in rw (p.1, p.2) (refl, tt)
 
 pub returns-in_err-heard : goal.returns-in_err-heard
-returns-in_err-heard c source history from announced lives = grind (arith, err_from_is_err_and)
+returns-in_err-heard c source history from announced lives = let p = err_from_is_err_and c.from_residual-in_err-heard.result c.from_residual-in_err-heard.ensures.1 in rw (p.1, p.2) (refl, tt)
 
 pub returns-in_err-put_train_heard : goal.returns-in_err-put_train_heard
-returns-in_err-put_train_heard c source history from announced lives = grind (arith, err_from_is_err_and)
+returns-in_err-put_train_heard c source history from announced lives = let p = err_from_is_err_and c.from_residual-in_err-put_train_heard.result c.from_residual-in_err-put_train_heard.ensures.1 in rw (p.1, p.2) (refl, tt)

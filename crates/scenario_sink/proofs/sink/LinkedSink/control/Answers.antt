@@ -1,4 +1,4 @@
-use Rattle.scenario_sink.proofs.Prelude.{◌++◌, refl, ◌∙◌, ap, err_from_is_err_and, Snapshot, stepped, control_words, sink_line, arith}
+use Rattle.scenario_sink.proofs.Prelude.{◌++◌, refl, ◌∙◌, ap, err_from_is_err_and, Snapshot, stepped, control_words, sink_line}
 use Rattle.delegator_history.specs.Controls.{control_heard}
 use Rattle.delegator_history.specs.States.{control_heard as controlled}
 use Rattle.scenario_sink.proofs.Printing.{one_put}
@@ -22,10 +22,10 @@ returns c source history lives =
     )
 
 pub returns-in_err-heard : goal.returns-in_err-heard
-returns-in_err-heard c source history lives = grind (arith, err_from_is_err_and)
+returns-in_err-heard c source history lives = let p = err_from_is_err_and c.from_residual.result c.from_residual.ensures.1 in rw (p.1, p.2) (refl, tt)
 
 pub returns-in_err-gather : goal.returns-in_err-gather
-returns-in_err-gather c source history lives = grind (arith, err_from_is_err_and)
+returns-in_err-gather c source history lives = let p = err_from_is_err_and c.from_residual-in_err-gather.result c.from_residual-in_err-gather.ensures.1 in rw (p.1, p.2) (refl, tt)
 
 pub returns-in_err-put_control_heard : goal.returns-in_err-put_control_heard
-returns-in_err-put_control_heard c source history lives = grind (arith, err_from_is_err_and)
+returns-in_err-put_control_heard c source history lives = let p = err_from_is_err_and c.from_residual-in_err-put_control_heard.result c.from_residual-in_err-put_control_heard.ensures.1 in rw (p.1, p.2) (refl, tt)

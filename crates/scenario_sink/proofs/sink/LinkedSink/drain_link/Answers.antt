@@ -17,22 +17,16 @@ returns-clause-goes c history lives on =
 
 pub returns-in_err-serve_all-clause-memory : goal.returns-in_err-serve_all-clause-memory
 returns-in_err-serve_all-clause-memory c history lives on =
-    grind (
-      arith,
-      label_of,
-      served_out,
-      notified_out,
-      serve_lines,
-      length,
-      writes_waiting,
-      tell_lines,
-      notices_waiting,
-      read_lines,
-      reads_waiting,
-      err_from_is_err_and,
-      serves_some,
-      drain_length,
-    )
+    let link = c.args.link in
+    let label = label_of c.args.label in
+    let served : List Call = served_out link history.calls_made in
+    let told : List Call = notified_out history.made.setup history.made.mtu link served in
+    let serve_them : Lines = serve_lines label history.made link (length (writes_waiting link history.calls_made)) history.calls_made in
+    let tell_them : Lines = tell_lines label history.made link (length (notices_waiting history.made.setup history.made.mtu link served)) served in
+    let read_them : Lines = read_lines label history.made link (length (reads_waiting history.made.setup history.made.mtu link told)) told in
+    let p = err_from_is_err_and c.from_residual.result c.from_residual.ensures.1 in
+    let some = serves_some label history.made link history.calls_made (c.in_err-serve_all.ensures.memory history lives on) in
+    rw p.1 (omega (arith, drain_length serve_them tell_them read_them, some))
 
 pub returns-in_err-tell_all-clause-memory : goal.returns-in_err-tell_all-clause-memory
 returns-in_err-tell_all-clause-memory c history lives on =

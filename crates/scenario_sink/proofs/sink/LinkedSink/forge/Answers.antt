@@ -1,4 +1,4 @@
-use Rattle.scenario_sink.proofs.Prelude.{◌≡◌, ◌++◌, refl, ◌∙◌, ap, err_from_is_err_and, forged_line, arith}
+use Rattle.scenario_sink.proofs.Prelude.{◌≡◌, ◌++◌, refl, ◌∙◌, ap, err_from_is_err_and, forged_line}
 use Rattle.assistant_machine.specs.Answers.{answer_of}
 use Rattle.scenario_sink.proofs.Calls.{Here, forges, here, its_answer, its_assistant}
 use Rattle.scenario_sink.proofs.Forging.{its_answer as the_answer}
@@ -26,4 +26,4 @@ pub returns-then-wants_memory : goal.returns-then-wants_memory
 returns-then-wants_memory c source history lives = (refl, tt)
 
 pub returns-in_err-put_forged : goal.returns-in_err-put_forged
-returns-in_err-put_forged c source history lives = grind (arith, err_from_is_err_and)
+returns-in_err-put_forged c source history lives = let p = err_from_is_err_and c.from_residual.result c.from_residual.ensures.1 in rw (p.1, p.2) (refl, tt)

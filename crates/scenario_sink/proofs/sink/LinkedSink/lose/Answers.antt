@@ -1,4 +1,4 @@
-use Rattle.scenario_sink.proofs.Prelude.{refl, ◌∙◌, err_from_is_err_and, train_lost, stepped, arith}
+use Rattle.scenario_sink.proofs.Prelude.{refl, ◌∙◌, err_from_is_err_and, train_lost, stepped}
 use Rattle.scenario_sink.proofs.Printing.{one_put}
 use Rattle.scenario_sink.proofs.Stands.{steps}
 use Rattle.scenario_sink.proofs.sink.LinkedSink.lose.Goals as goal
@@ -16,10 +16,10 @@ returns c source history lives =
     )
 
 pub returns-in_err-lost : goal.returns-in_err-lost
-returns-in_err-lost c source history lives = grind (arith, err_from_is_err_and)
+returns-in_err-lost c source history lives = let p = err_from_is_err_and c.from_residual.result c.from_residual.ensures.1 in rw (p.1, p.2) (refl, tt)
 
 pub returns-in_err-gather : goal.returns-in_err-gather
-returns-in_err-gather c source history lives = grind (arith, err_from_is_err_and)
+returns-in_err-gather c source history lives = let p = err_from_is_err_and c.from_residual-in_err-gather.result c.from_residual-in_err-gather.ensures.1 in rw (p.1, p.2) (refl, tt)
 
 pub returns-in_err-put_idle : goal.returns-in_err-put_idle
-returns-in_err-put_idle c source history lives = grind (arith, err_from_is_err_and)
+returns-in_err-put_idle c source history lives = let p = err_from_is_err_and c.from_residual-in_err-put_idle.result c.from_residual-in_err-put_idle.ensures.1 in rw (p.1, p.2) (refl, tt)

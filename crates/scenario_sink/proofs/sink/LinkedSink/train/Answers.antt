@@ -1,4 +1,4 @@
-use Rattle.scenario_sink.proofs.Prelude.{◌++◌, ◌∙◌, refl, ap, err_from_is_err_and, sink_line, train_words, arith}
+use Rattle.scenario_sink.proofs.Prelude.{◌++◌, ◌∙◌, refl, ap, err_from_is_err_and, sink_line, train_words}
 use Rattle.scenario_sink.proofs.Printing.{one_put}
 use Rattle.scenario_sink.proofs.sink.LinkedSink.train.Goals as goal
 
@@ -11,7 +11,7 @@ returns c source history from lives = (
 )
 
 pub returns-in_err-heard : goal.returns-in_err-heard
-returns-in_err-heard c source history from lives = grind (arith, err_from_is_err_and)
+returns-in_err-heard c source history from lives = let p = err_from_is_err_and c.from_residual.result c.from_residual.ensures.1 in rw (p.1, p.2) (refl, tt)
 
 pub returns-in_err-put_train_heard : goal.returns-in_err-put_train_heard
-returns-in_err-put_train_heard c source history from lives = grind (arith, err_from_is_err_and)
+returns-in_err-put_train_heard c source history from lives = let p = err_from_is_err_and c.from_residual-in_err-put_train_heard.result c.from_residual-in_err-put_train_heard.ensures.1 in rw (p.1, p.2) (refl, tt)

@@ -1,6 +1,0 @@
-use Rattle.std.proofs.Common.{◌≡◌, false}
-use Rattle.std.specs.Prelude.{replicate, None}
-use Rattle.assistant_machine.proofs.joined.empty_slots.Given as goal
-
-abbrev pub invariant-slots : goal.invariant-slots
-invariant-slots l = (l.views.items ≡ replicate l.counter None) × (l.reads.items ≡ replicate l.counter false)
