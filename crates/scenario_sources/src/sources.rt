@@ -54,13 +54,10 @@ impl Sources {
     pub fn new(alloc: Global) -> Result<Sources, Memory>
         ensures { IfOk result (λ sources. SourcesStand [] sources) }
     {
-        let mut phases = Vec::with_capacity(alloc, 2)?;
-        phases.push(Phase::Absent)?;
-        phases.push(Phase::Absent)?;
         Ok(Sources {
             alloc,
             chosen: 0,
-            phases,
+            phases: vec![in alloc; Phase::Absent, Phase::Absent]?,
         })
     }
 
@@ -92,7 +89,7 @@ impl Sources {
     {
         describe(
             self.alloc,
-            &mut self.phases[usize::from(self.chosen)],
+            &mut self.phases[self.chosen as usize],
             info,
             origin,
             delay,
@@ -105,7 +102,7 @@ impl Sources {
         ensures { (version : ℕ) (steps : List Step) → SourcesStand steps self.old
             → Answers version steps (IdentStep identity.address_type identity.address identity.sid identity.broadcast_id) self.new result }
     {
-        identify(&mut self.phases[usize::from(self.chosen)], identity)
+        identify(&mut self.phases[self.chosen as usize], identity)
     }
 
     /// `subgroup`: opens a subgroup of the chosen source's BASE with this Codec_ID and this configuration, an LTV list. It is
@@ -115,7 +112,7 @@ impl Sources {
         ensures { (version : ℕ) (steps : List Step) → SourcesStand steps self.old
             → Answers version steps (SubgroupStep codec config.now) self.new result }
     {
-        open_subgroup(&mut self.phases[usize::from(self.chosen)], codec, config)
+        open_subgroup(&mut self.phases[self.chosen as usize], codec, config)
     }
 
     /// `meta`: gives the last subgroup this metadata, an LTV list, in place of what it had. It is refused with Order outside
@@ -125,7 +122,7 @@ impl Sources {
         ensures { (version : ℕ) (steps : List Step) → SourcesStand steps self.old
             → Answers version steps (MetaStep metadata.now) self.new result }
     {
-        give_metadata(&mut self.phases[usize::from(self.chosen)], metadata)
+        give_metadata(&mut self.phases[self.chosen as usize], metadata)
     }
 
     /// `bis`: adds a stream with this configuration, an LTV list, to the last subgroup. The first refusal that holds is
@@ -136,7 +133,7 @@ impl Sources {
         ensures { (version : ℕ) (steps : List Step) → SourcesStand steps self.old
             → Answers version steps (BisStep bis config.now) self.new result }
     {
-        add_stream(&mut self.phases[usize::from(self.chosen)], bis, config)
+        add_stream(&mut self.phases[self.chosen as usize], bis, config)
     }
 
     /// `cipher`: encrypts the group of the chosen source, once, between `group` and `start`; else it is refused with Order.
@@ -145,7 +142,7 @@ impl Sources {
         ensures { (version : ℕ) (steps : List Step) → SourcesStand steps self.old
             → Answers version steps (CipherStep cipher.giv cipher.gskd) self.new result }
     {
-        encrypt(&mut self.phases[usize::from(self.chosen)], cipher)
+        encrypt(&mut self.phases[self.chosen as usize], cipher)
     }
 
     /// `start`: starts the chosen source, once, with this first event. The first refusal that holds is answered: Order
@@ -159,16 +156,16 @@ impl Sources {
             → stage_of steps ≡ running version
             → SourcesStand steps self.old → Answers version steps (StartStep first) self.new result }
     {
-        let ready = match check_start(self.alloc, &self.phases[usize::from(self.chosen)], limits) {
+        let ready = match check_start(self.alloc, &self.phases[self.chosen as usize], limits) {
             Ok(ready) => ready,
             Err(stop) => return Err(stop),
         };
-        if is_twice(ready.identity, &self.phases[usize::from(1 - self.chosen)]) {
+        if is_twice(ready.identity, &self.phases[(1 - self.chosen) as usize]) {
             return Err(Stop::Refused(Refusal::IdentTwice));
         }
         begin(
             self.alloc,
-            &mut self.phases[usize::from(self.chosen)],
+            &mut self.phases[self.chosen as usize],
             ready,
             limits,
             first,
@@ -182,12 +179,7 @@ impl Sources {
         ensures { (version : ℕ) (steps : List Step) → SourcesStand steps self.old
             → Answers version steps (UnitStep bis time octets.now) self.new result }
     {
-        give(
-            &mut self.phases[usize::from(self.chosen)],
-            bis,
-            time,
-            octets,
-        )
+        give(&mut self.phases[self.chosen as usize], bis, time, octets)
     }
 
     /// Why the chosen source refuses a unit of a stream that has had a relay: the first reason that holds of Order, NoSuchBis,
@@ -196,7 +188,7 @@ impl Sources {
         ensures { (version : ℕ) (steps : List Step) → SourcesStand steps self.now
             → relayed_or true (fault_of version steps (UnitStep bis time octets.now)) ≡ Some result }
     {
-        relayed_in(&self.phases[usize::from(self.chosen)], bis, time, octets)
+        relayed_in(&self.phases[self.chosen as usize], bis, time, octets)
     }
 
     /// `event`: performs the next event of the chosen source, and answers the one that it closes, and the units that its
@@ -206,7 +198,7 @@ impl Sources {
         ensures performs { (version : ℕ) (steps : List Step) → SourcesStand steps self.old → Performs version steps self.new result }
         ensures within { IfOk result (λ performed. ForSome performed.closed (λ event. event < 2 ^ 39)) }
     {
-        perform(&mut self.phases[usize::from(self.chosen)])
+        perform(&mut self.phases[self.chosen as usize])
     }
 
     /// `stop`: stops the chosen source, and answers the event that it closes. It is refused with Order outside its start and
@@ -215,7 +207,7 @@ impl Sources {
         ensures closes { (version : ℕ) (steps : List Step) → SourcesStand steps self.old → Closes version steps StopStep self.new result }
         ensures within { IfOk result (λ closed. ForSome closed (λ event. event < 2 ^ 39)) }
     {
-        stop(&mut self.phases[usize::from(self.chosen)])
+        stop(&mut self.phases[self.chosen as usize])
     }
 
     /// `terminate`: ends the group of the chosen source for this reason, and answers the event that it closes, and the PDU
@@ -224,14 +216,14 @@ impl Sources {
         ensures ends { (version : ℕ) (steps : List Step) → SourcesStand steps self.old → Terminates version steps reason self.new result }
         ensures within { IfOk result (λ terminated. ForSome terminated.closed (λ event. event < 2 ^ 39)) }
     {
-        terminate(&mut self.phases[usize::from(self.chosen)], reason)
+        terminate(&mut self.phases[self.chosen as usize], reason)
     }
 
     /// Whether the chosen source is between its start and its end.
     pub fn is_sending(&self) -> bool
         ensures { (steps : List Step) → SourcesStand steps self.now → result ≡ is_sending (chosen_steps steps) }
     {
-        is_sending_in(&self.phases[usize::from(self.chosen)])
+        is_sending_in(&self.phases[self.chosen as usize])
     }
 
     /// `announce`: the train of the chosen source for its next event (Basic Audio Profile 1.0, section 3.7.2). The first
@@ -241,14 +233,14 @@ impl Sources {
         ensures announces { (steps : List Step) → SourcesStand steps self.now → AnnouncesAs (chosen_steps steps) result }
         ensures within { IfOk result (λ train. train.time ≤ 2 ^ 61) }
     {
-        announce(&self.phases[usize::from(self.chosen)])
+        announce(&self.phases[self.chosen as usize])
     }
 
     /// Who the chosen source is. Without `ident` it is of type 0, and its address, its SID and its Broadcast_ID are 0.
     pub fn identity(&self) -> Identity
         ensures { (steps : List Step) → SourcesStand steps self.now → result ≡ identity_of (chosen_steps steps) }
     {
-        identity_in(&self.phases[usize::from(self.chosen)])
+        identity_in(&self.phases[self.chosen as usize])
     }
 
     /// The open event of a source, before `end`.
@@ -258,7 +250,7 @@ impl Sources {
             → result ≡ open_event (steps_of_source source steps) }
         ensures within { ForSome result (λ event. event < 2 ^ 39) }
     {
-        open(&self.phases[usize::from(source)])
+        open(&self.phases[source as usize])
     }
 
     /// The group of a source, be it chosen or not; `None` exactly outside its start and its end, and where its group is encrypted.
@@ -266,7 +258,7 @@ impl Sources {
         requires { source < 2 }
         ensures { (steps : List Step) → SourcesStand steps self.now → TakesAs (steps_of_source source steps) result }
     {
-        taking_in(&self.phases[usize::from(source)])
+        taking_in(&self.phases[source as usize])
     }
 
     /// How the chosen source puts a sink on these streams of its group from its next event on; `None` exactly outside its start
@@ -274,14 +266,14 @@ impl Sources {
     pub fn big_sync(&self, which: BisSet) -> Option<BigSync>
         ensures { (steps : List Step) → SourcesStand steps self.now → JoinsAs (chosen_steps steps) which result }
     {
-        big_sync_in(&self.phases[usize::from(self.chosen)], which)
+        big_sync_in(&self.phases[self.chosen as usize], which)
     }
 
     /// The group of the chosen source; `None` exactly before its start, and where it is encrypted.
     pub fn group(&self) -> Option<Group>
         ensures { (steps : List Step) → SourcesStand steps self.now → GroupIs (chosen_steps steps) result }
     {
-        group_in(&self.phases[usize::from(self.chosen)])
+        group_in(&self.phases[self.chosen as usize])
     }
 
     /// The last event of the chosen source, where it performed one.
@@ -290,7 +282,7 @@ impl Sources {
             → LastIs (chosen_steps steps) result }
         ensures within { ForSome result (λ event. event < 2 ^ 39) }
     {
-        last_in(&self.phases[usize::from(self.chosen)])
+        last_in(&self.phases[self.chosen as usize])
     }
 
     /// The event `back` events before the last one of the chosen source; 0 before its start.
@@ -299,7 +291,7 @@ impl Sources {
             → result ≡ event_back (chosen_steps steps) back }
         ensures within { result ≤ 2 ^ 39 }
     {
-        event_in(&self.phases[usize::from(self.chosen)], back)
+        event_in(&self.phases[self.chosen as usize], back)
     }
 
     /// The PDU at a place on the air of a source, be it chosen or not; the refusals are those of `heard_at`.
@@ -314,7 +306,7 @@ impl Sources {
             → is_heard (steps_of_source source steps) ≡ true
             → NoPlace (steps_of_source source steps) place.back place.bis place.subevent stop) }
     {
-        heard_in(&self.phases[usize::from(source)], place)
+        heard_in(&self.phases[source as usize], place)
     }
 
     /// The PDUs that a stream of the chosen source sent in its last event, by rising subevent. None comes before its start, and where
@@ -324,7 +316,7 @@ impl Sources {
         ensures { (steps : List Step) → SourcesStand steps self.now → is_heard (chosen_steps steps) ≡ true
             → SentIs (chosen_steps steps) bis result }
     {
-        sent_in(&self.phases[usize::from(self.chosen)], bis)
+        sent_in(&self.phases[self.chosen as usize], bis)
     }
 
     /// The PDU at a place on the air of the chosen source. The first refusal that holds is answered: Order before its start,
@@ -338,6 +330,6 @@ impl Sources {
         ensures err { IfErr result (λ stop. (steps : List Step) → SourcesStand steps self.now → is_heard (chosen_steps steps) ≡ true
             → NoPlace (chosen_steps steps) place.back place.bis place.subevent stop) }
     {
-        heard_in(&self.phases[usize::from(self.chosen)], place)
+        heard_in(&self.phases[self.chosen as usize], place)
     }
 }

@@ -76,8 +76,8 @@ impl Step {
     pub fn give_line<T: LineTaker>(&self, taker: &T) -> T::Made
         ensures { T.makes taker.now (placed_step self.now) result }
     {
-        match self {
-            Step::Scenario { version } => give_number(taker, b"scenario", *version as u64, 1, 2),
+        match *self {
+            Step::Scenario { version } => give_number(taker, b"scenario", version as u64, 1, 2),
             Step::Group {
                 framing,
                 origin,
@@ -97,51 +97,55 @@ impl Step {
             } => taker.take(
                 b"group",
                 &[
-                    Framing(*framing),
-                    Number(*origin, 3_000, 1 << 48),
-                    Number(*delay as u64, 0, 16_777_215),
-                    Number(*iso as u64, 0, 4_095),
-                    Number(*sdu as u64, 0, 1_048_575),
-                    Number(*max_sdu as u64, 0, 4_095),
-                    Number(*max_pdu as u64, 0, 255),
-                    Number(*num_bis as u64, 0, 31),
-                    Number(*bn as u64, 0, 7),
-                    Number(*nse as u64, 0, 31),
-                    Number(*irc as u64, 0, 15),
-                    Number(*pto as u64, 0, 15),
-                    Number(*sub as u64, 0, 1_048_575),
-                    Number(*spacing as u64, 0, 1_048_575),
-                    Number(*phy as u64, 0, 7),
+                    Framing(framing),
+                    Number(origin, 3_000, 1 << 48),
+                    Number(delay as u64, 0, 16_777_215),
+                    Number(iso as u64, 0, 4_095),
+                    Number(sdu as u64, 0, 1_048_575),
+                    Number(max_sdu as u64, 0, 4_095),
+                    Number(max_pdu as u64, 0, 255),
+                    Number(num_bis as u64, 0, 31),
+                    Number(bn as u64, 0, 7),
+                    Number(nse as u64, 0, 31),
+                    Number(irc as u64, 0, 15),
+                    Number(pto as u64, 0, 15),
+                    Number(sub as u64, 0, 1_048_575),
+                    Number(spacing as u64, 0, 1_048_575),
+                    Number(phy as u64, 0, 7),
                 ],
             ),
             Step::Ident {
                 address_type,
-                address,
+                ref address,
                 sid,
-                broadcast_id,
+                ref broadcast_id,
             } => taker.take(
                 b"ident",
                 &[
-                    Number(*address_type as u64, 0, 1),
+                    Number(address_type as u64, 0, 1),
                     Exactly(address, 6),
-                    Number(*sid as u64, 0, 15),
+                    Number(sid as u64, 0, 15),
                     Exactly(broadcast_id, 3),
                 ],
             ),
-            Step::Subgroup { codec, config } => taker.take(
-                b"subgroup",
-                &[Exactly(codec, 5), List(config, 255)],
-            ),
-            Step::Meta { metadata } => taker.take(b"meta", &[List(metadata, 255)]),
-            Step::Bis { bis, config } => taker.take(b"bis", &[Stream(*bis), List(config, 255)]),
-            Step::Cipher { giv, gskd } => taker.take(
+            Step::Subgroup {
+                ref codec,
+                ref config,
+            } => taker.take(b"subgroup", &[Exactly(codec, 5), List(config, 255)]),
+            Step::Meta { ref metadata } => taker.take(b"meta", &[List(metadata, 255)]),
+            Step::Bis { bis, ref config } => taker.take(b"bis", &[Stream(bis), List(config, 255)]),
+            Step::Cipher { ref giv, ref gskd } => taker.take(
                 b"cipher",
                 &[Exactly(giv, 8), Exactly(gskd, 16)],
             ),
-            Step::Start { first } => give_number(taker, b"start", *first, 0, 549_755_813_887),
-            Step::Unit { bis, time, octets } => taker.take(
+            Step::Start { first } => give_number(taker, b"start", first, 0, 549_755_813_887),
+            Step::Unit {
+                bis,
+                time,
+                ref octets,
+            } => taker.take(
                 b"unit",
-                &[Stream(*bis), Time(*time, 1 << 62), Octets(octets, 4_095)],
+                &[Stream(bis), Time(time, 1 << 62), Octets(octets, 4_095)],
             ),
             Step::Event => taker.take(b"event", &[]),
             Step::Sniff {
@@ -151,18 +155,18 @@ impl Step {
             } => taker.take(
                 b"sniff",
                 &[
-                    Number(*back as u64, 0, 31),
-                    Stream(*bis),
-                    Number(*subevent as u64, 0, 30),
+                    Number(back as u64, 0, 31),
+                    Stream(bis),
+                    Number(subevent as u64, 0, 30),
                 ],
             ),
-            Step::Terminate { reason } => give_number(taker, b"terminate", *reason as u64, 0, 255),
+            Step::Terminate { reason } => give_number(taker, b"terminate", reason as u64, 0, 255),
             Step::Stop => taker.take(b"stop", &[]),
             Step::End => taker.take(b"end", &[]),
-            Step::Source { source } => give_number(taker, b"source", *source as u64, 0, 1),
+            Step::Source { source } => give_number(taker, b"source", source as u64, 0, 1),
             Step::Relay { sink, bis, to } => taker.take(
                 b"relay",
-                &[Sink(*sink), Stream(*bis), Stream(*to)],
+                &[Sink(sink), Stream(bis), Stream(to)],
             ),
             Step::Sink { .. }
             | Step::Pac { .. }
@@ -204,7 +208,7 @@ impl Step {
         requires { IsOfSink self.now }
         ensures { T.makes taker.now (placed_step self.now) result }
     {
-        match self {
+        match *self {
             Step::Sink {
                 sink,
                 streams,
@@ -213,36 +217,36 @@ impl Step {
             } => taker.take(
                 b"sink",
                 &[
-                    Sink(*sink),
-                    Number(*streams as u64, 1, 31),
-                    Number(*slots as u64, 1, 8),
-                    Perhaps(*mtu, 23, 517),
+                    Sink(sink),
+                    Number(streams as u64, 1, 31),
+                    Number(slots as u64, 1, 8),
+                    Perhaps(mtu, 23, 517),
                 ],
             ),
             Step::Pac {
                 sink,
-                codec,
-                caps,
-                metadata,
+                ref codec,
+                ref caps,
+                ref metadata,
             } => taker.take(
                 b"pac",
                 &[
-                    Sink(*sink),
+                    Sink(sink),
                     Exactly(codec, 5),
                     List(caps, 255),
                     List(metadata, 255),
                 ],
             ),
-            Step::Locate { sink, bits } => taker.take(b"locate", &[Sink(*sink), FourOctets(*bits)]),
+            Step::Locate { sink, bits } => taker.take(b"locate", &[Sink(sink), FourOctets(bits)]),
             Step::Context {
                 sink,
                 sink_bits,
                 source_bits,
             } => taker.take(
                 b"context",
-                &[Sink(*sink), TwoOctets(*sink_bits), TwoOctets(*source_bits)],
+                &[Sink(sink), TwoOctets(sink_bits), TwoOctets(source_bits)],
             ),
-            Step::Tuned { sink, which } => taker.take(b"tuned", &[Sink(*sink), Streams(*which)]),
+            Step::Tuned { sink, which } => taker.take(b"tuned", &[Sink(sink), Streams(which)]),
             Step::Hear {
                 sink,
                 back,
@@ -251,61 +255,65 @@ impl Step {
             } => taker.take(
                 b"hear",
                 &[
-                    Sink(*sink),
-                    Number(*back as u64, 0, 31),
-                    Stream(*bis),
-                    Number(*subevent as u64, 0, 30),
+                    Sink(sink),
+                    Number(back as u64, 0, 31),
+                    Stream(bis),
+                    Number(subevent as u64, 0, 30),
                 ],
             ),
             Step::Air { sink, lose } => taker.take(
                 b"air",
-                &[Sink(*sink), Number(*lose as u64, 0, 255)],
+                &[Sink(sink), Number(lose as u64, 0, 255)],
             ),
             Step::Inject {
                 sink,
                 back,
                 bis,
                 subevent,
-                octets,
+                ref octets,
             } => taker.take(
                 b"inject",
                 &[
-                    Sink(*sink),
-                    Number(*back as u64, 0, 31),
-                    Stream(*bis),
-                    Number(*subevent as u64, 0, 30),
+                    Sink(sink),
+                    Number(back as u64, 0, 31),
+                    Stream(bis),
+                    Number(subevent as u64, 0, 30),
                     Octets(octets, 300),
                 ],
             ),
-            Step::Announce { sink } => give_sink(taker, b"announce", *sink),
+            Step::Announce { sink } => give_sink(taker, b"announce", sink),
             Step::Train {
                 sink,
                 time,
-                ext,
-                adv,
-                acad,
+                ref ext,
+                ref adv,
+                ref acad,
             } => taker.take(
                 b"train",
                 &[
-                    Sink(*sink),
-                    Number(*time, 0, 1 << 48),
+                    Sink(sink),
+                    Number(time, 0, 1 << 48),
                     Octets(ext, 255),
                     Octets(adv, 1_650),
                     Octets(acad, 255),
                 ],
             ),
-            Step::Show { sink } => give_sink(taker, b"show", *sink),
-            Step::Lose { sink } => give_sink(taker, b"lose", *sink),
-            Step::Drop { sink } => give_sink(taker, b"drop", *sink),
-            Step::Control { sink, octets } => taker.take(
+            Step::Show { sink } => give_sink(taker, b"show", sink),
+            Step::Lose { sink } => give_sink(taker, b"lose", sink),
+            Step::Drop { sink } => give_sink(taker, b"drop", sink),
+            Step::Control { sink, ref octets } => taker.take(
                 b"control",
-                &[Sink(*sink), Octets(octets, 300)],
+                &[Sink(sink), Octets(octets, 300)],
             ),
-            Step::Forge { sink, slot, octets } => taker.take(
+            Step::Forge {
+                sink,
+                slot,
+                ref octets,
+            } => taker.take(
                 b"forge",
                 &[
-                    Sink(*sink),
-                    Number(*slot as u64, 0, 255),
+                    Sink(sink),
+                    Number(slot as u64, 0, 255),
                     Octets(octets, 1_024),
                 ],
             ),
@@ -318,47 +326,48 @@ impl Step {
         requires { IsOfClient self.now }
         ensures { T.makes taker.now (placed_step self.now) result }
     {
-        match self {
-            Step::Write { sink, octets } => taker.take(
+        match *self {
+            Step::Write { sink, ref octets } => taker.take(
                 b"write",
-                &[Sink(*sink), Octets(octets, 512)],
+                &[Sink(sink), Octets(octets, 512)],
             ),
-            Step::Add { sink, op } => give_add(taker, *sink, op),
-            Step::Modify { sink, op } => give_modify(taker, *sink, op),
+            Step::Add { sink, ref op } => give_add(taker, sink, op),
+            Step::Modify { sink, ref op } => give_modify(taker, sink, op),
             Step::Remove { sink, source_id } => taker.take(
                 b"remove",
-                &[Sink(*sink), Number(*source_id as u64, 0, 255)],
+                &[Sink(sink), Number(source_id as u64, 0, 255)],
             ),
             Step::Code {
                 sink,
                 source_id,
-                code,
+                ref code,
             } => taker.take(
                 b"code",
                 &[
-                    Sink(*sink),
-                    Number(*source_id as u64, 0, 255),
+                    Sink(sink),
+                    Number(source_id as u64, 0, 255),
                     Exactly(code, 16),
                 ],
             ),
-            Step::Serve { sink } => give_sink(taker, b"serve", *sink),
-            Step::Tell { sink } => give_sink(taker, b"tell", *sink),
-            Step::Read { sink } => give_sink(taker, b"read", *sink),
-            Step::Drain { sink } => give_sink(taker, b"drain", *sink),
-            Step::Assist { sink, link } => give_link(taker, b"assist", *sink, *link),
+            Step::Serve { sink } => give_sink(taker, b"serve", sink),
+            Step::Tell { sink } => give_sink(taker, b"tell", sink),
+            Step::Read { sink } => give_sink(taker, b"read", sink),
+            Step::Drain { sink } => give_sink(taker, b"drain", sink),
+            Step::Assist { sink, link } => give_link(taker, b"assist", sink, link),
             Step::Apart { sink, link } => taker.take(
                 b"apart",
-                &[Sink(*sink), Number(*link as u64, 1, 3)],
+                &[Sink(sink), Number(link as u64, 1, 3)],
             ),
-            Step::AWrite { sink, link, octets } => taker.take(
-                b"awrite",
-                &[Sink(*sink), Link(*link), Octets(octets, 512)],
-            ),
-            Step::AServe { sink, link } => give_link(taker, b"aserve", *sink, *link),
-            Step::ATell { sink, link } => give_link(taker, b"atell", *sink, *link),
-            Step::ARead { sink, link } => give_link(taker, b"aread", *sink, *link),
-            Step::ADrain { sink, link } => give_link(taker, b"adrain", *sink, *link),
-            Step::AShow { sink, link } => give_link(taker, b"ashow", *sink, *link),
+            Step::AWrite {
+                sink,
+                link,
+                ref octets,
+            } => taker.take(b"awrite", &[Sink(sink), Link(link), Octets(octets, 512)]),
+            Step::AServe { sink, link } => give_link(taker, b"aserve", sink, link),
+            Step::ATell { sink, link } => give_link(taker, b"atell", sink, link),
+            Step::ARead { sink, link } => give_link(taker, b"aread", sink, link),
+            Step::ADrain { sink, link } => give_link(taker, b"adrain", sink, link),
+            Step::AShow { sink, link } => give_link(taker, b"ashow", sink, link),
             _ => unreachable!(),
         }
     }

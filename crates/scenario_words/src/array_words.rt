@@ -19,15 +19,9 @@ impl<'a> Cursor<'a> {
         ensures found { IfSome result (λ octets. next (exact_in N) self.old ≡ Ok (octets, self.new)) }
         ensures other { IsNone result → self.new ≡ self.old }
     {
-        let Some(rest) = self.rest else {
-            return None;
-        };
-        let Some((word, left)) = pairs_in_front(rest, N) else {
-            return None;
-        };
-        let Some(octets) = array_of(word) else {
-            return None;
-        };
+        let rest = self.rest?;
+        let (word, left) = pairs_in_front(rest, N)?;
+        let octets = array_of(word)?;
         self.rest = left;
         self.read += 1;
         Some(octets)

@@ -23,12 +23,8 @@ impl<'a> Cursor<'a> {
             (least ≤ n) × (n ≤ greatest) × (next (decimal_in least greatest) self.old ≡ Ok (n, self.new))) }
         ensures other { IsNone result → self.new ≡ self.old }
     {
-        let Some(rest) = self.rest else {
-            return None;
-        };
-        let Some((n, left)) = short_number(rest, most) else {
-            return None;
-        };
+        let rest = self.rest?;
+        let (n, left) = short_number(rest, most)?;
         if n < least {
             return None;
         }

@@ -4,5 +4,5 @@ use Rattle.scenario_sources.proofs.sources.Sources.add_stream.Goals as goal
 
 pub returns : goal.returns
 returns c version steps stands =
-    answers c.from.ensures c.index_mut.ensures.value stands _ c.add_stream.new.phase refl refl version (Bis c.args.bis c.args.config.now)
+    answers refl c.index_mut.ensures.value stands _ c.add_stream.new.phase refl refl version (Bis c.args.bis c.args.config.now)
     c.add_stream.result (record { line = λ s steps. refl; chooses = refl }) refl (c.add_stream.ensures version (chosen_steps steps))

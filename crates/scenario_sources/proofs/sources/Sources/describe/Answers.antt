@@ -5,6 +5,6 @@ use Rattle.scenario_sources.proofs.sources.Sources.describe.Goals as goal
 
 pub returns : goal.returns
 returns c version steps plain stands =
-    answers c.from.ensures c.index_mut.ensures.value stands _ c.describe.new.phase refl refl version
+    answers refl c.index_mut.ensures.value stands _ c.describe.new.phase refl refl version
     (group_step c.args.info c.args.origin c.args.delay) c.describe.result (grind arith) refl
     (c.describe.ensures version (chosen_steps steps) plain)

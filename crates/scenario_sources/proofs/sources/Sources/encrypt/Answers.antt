@@ -5,6 +5,6 @@ use Rattle.scenario_sources.proofs.sources.Sources.encrypt.Goals as goal
 
 pub returns : goal.returns
 returns c version steps stands =
-    answers c.from.ensures c.index_mut.ensures.value stands _ c.encrypt.new.phase refl refl version
+    answers refl c.index_mut.ensures.value stands _ c.encrypt.new.phase refl refl version
     (Cipher c.args.cipher.giv c.args.cipher.gskd) c.encrypt.result (record { line = λ s steps. refl; chooses = refl }) refl
     (c.encrypt.ensures version (chosen_steps steps))

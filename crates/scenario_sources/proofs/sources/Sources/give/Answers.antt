@@ -5,6 +5,6 @@ use Rattle.scenario_sources.proofs.sources.Sources.give.Goals as goal
 
 pub returns : goal.returns
 returns c version steps stands =
-    answers c.from.ensures c.index_mut.ensures.value stands _ c.give.new.phase refl refl version
+    answers refl c.index_mut.ensures.value stands _ c.give.new.phase refl refl version
     (UnitStep c.args.bis c.args.time c.args.octets.now) c.give.result (record { line = λ s steps. refl; chooses = refl }) refl
     (c.give.ensures version (chosen_steps steps))

@@ -5,6 +5,6 @@ use Rattle.scenario_sources.proofs.sources.Sources.identify.Goals as goal
 
 pub returns : goal.returns
 returns c version steps stands =
-    answers c.from.ensures c.index_mut.ensures.value stands _ c.identify.new.phase refl refl version
+    answers refl c.index_mut.ensures.value stands _ c.identify.new.phase refl refl version
     (IdentStep c.args.identity.address_type c.args.identity.address c.args.identity.sid c.args.identity.broadcast_id) c.identify.result
     (record { line = λ s steps. refl; chooses = refl }) refl (c.identify.ensures version (chosen_steps steps))

@@ -1,6 +1,6 @@
-use Rattle.scenario_sources.proofs.Prelude.{chosen_steps}
+use Rattle.scenario_sources.proofs.Prelude.{refl, chosen_steps}
 use Rattle.scenario_sources.proofs.Lifting.{chosen_read}
 use Rattle.scenario_sources.proofs.sources.Sources.identity.Goals as goal
 
 pub returns : goal.returns
-returns c steps stands = c.identity_in.ensures (chosen_steps steps) (chosen_read c.from.ensures c.index.ensures stands)
+returns c steps stands = c.identity_in.ensures (chosen_steps steps) (chosen_read refl c.index.ensures stands)

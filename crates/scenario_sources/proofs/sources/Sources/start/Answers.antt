@@ -8,18 +8,18 @@ begin-requires-clause-described c = grind (arith, length, same_read, is_describe
 pub returns-in-Err : goal.returns-in-Err
 returns-in-Err c version steps h a running stands =
     start_refused version c.args.first steps c.args.self.now _ c.in-Err.stop stands refl refl
-    (c.in-Err.ensures.ready version c.args.first (chosen_steps steps) h (chosen_read c.from.ensures c.index.ensures stands))
+    (c.in-Err.ensures.ready version c.args.first (chosen_steps steps) h (chosen_read refl c.index.ensures stands))
 
 pub returns-then-is_twice : goal.returns-then-is_twice
 returns-then-is_twice c version steps h a running stands =
-    let ready = c.in-Ok.ensures.ready version c.args.first (chosen_steps steps) h (chosen_read c.from.ensures c.index.ensures stands) in
-    let twice = twice_is c.from-2.ensures c.index-2.ensures stands ready.1 c.is_twice.ensures in
+    let ready = c.in-Ok.ensures.ready version c.args.first (chosen_steps steps) h (chosen_read refl c.index.ensures stands) in
+    let twice = twice_is refl c.index-2.ensures stands ready.1 c.is_twice.ensures in
     (start_twice version c.args.first steps c.is_twice.result ready.0.0 twice c.if-is_twice.true, stands_as steps c.args.self.now _ stands refl refl)
 
 pub returns : goal.returns
 returns c version steps h a running stands =
-    let ready = c.in-Ok.ensures.ready version c.args.first (chosen_steps steps) h (chosen_read c.from.ensures c.index.ensures stands) in
-    let twice = twice_is c.from-2.ensures c.index-2.ensures stands ready.1 c.is_twice.ensures in
-    answers c.from-3.ensures c.index_mut.ensures.value stands _ c.begin.new.phase refl refl version (Start c.args.first) c.begin.result
+    let ready = c.in-Ok.ensures.ready version c.args.first (chosen_steps steps) h (chosen_read refl c.index.ensures stands) in
+    let twice = twice_is refl c.index-2.ensures stands ready.1 c.is_twice.ensures in
+    answers refl c.index_mut.ensures.value stands _ c.begin.new.phase refl refl version (Start c.args.first) c.begin.result
     (record { line = λ s steps. refl; chooses = refl }) (is_single c.args.first steps c.is_twice.result twice c.if-is_twice.false)
     (c.begin.ensures version (chosen_steps steps) h a (stage_same (chosen_of steps) steps ∙ running) ready.0)

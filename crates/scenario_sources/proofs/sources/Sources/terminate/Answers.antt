@@ -4,5 +4,5 @@ use Rattle.scenario_sources.proofs.sources.Sources.terminate.Goals as goal
 
 pub returns-clause-ends : goal.returns-clause-ends
 returns-clause-ends c version steps stands =
-    terminates c.from.ensures c.index_mut.ensures.value stands _ c.terminate.new.phase refl refl version c.args.reason c.terminate.result
+    terminates refl c.index_mut.ensures.value stands _ c.terminate.new.phase refl refl version c.args.reason c.terminate.result
     (c.terminate.ensures.ends version (chosen_steps steps))
