@@ -13,13 +13,10 @@ time_fits s event slot iso_us below within is =
     omega (arith, many, into, s.group.bounds.iso_greatest, s.group.bounds.whole_units s.unframed, s.group.bounds.sync_delay, s.times, s.delays)
 
 pub anchor-anchor-requires-clause-sum : goal.anchor-anchor-requires-clause-sum
-anchor-anchor-requires-clause-sum c =
-    omega (arith, time_fits c.args.self.now c.args.event c.args.slot c.iso_us.result c.requires.event c.requires.slot c.iso_us.ensures)
+anchor-anchor-requires-clause-sum c = omega (arith, time_fits c.args.self.now c.args.event c.args.slot c.iso_us.result c.requires.event c.requires.slot c.iso_us.ensures)
 
 pub unframed_reference-requires : goal.unframed_reference-requires
-unframed_reference-requires c =
-    omega (arith, time_fits c.args.self.now c.args.event c.args.slot c.iso_us.result c.requires.event c.requires.slot c.iso_us.ensures, c.anchor-anchor.ensures)
+unframed_reference-requires c = omega (arith, time_fits c.args.self.now c.args.event c.args.slot c.iso_us.result c.requires.event c.requires.slot c.iso_us.ensures, c.anchor-anchor.ensures)
 
 pub render-requires : goal.render-requires
-render-requires c =
-    omega (arith, time_fits c.args.self.now c.args.event c.args.slot c.iso_us.result c.requires.event c.requires.slot c.iso_us.ensures, c.anchor-anchor.ensures, c.unframed_reference.ensures)
+render-requires c = omega (arith, time_fits c.args.self.now c.args.event c.args.slot c.iso_us.result c.requires.event c.requires.slot c.iso_us.ensures, c.anchor-anchor.ensures, c.unframed_reference.ensures)
