@@ -8,7 +8,7 @@ ghost use Rattle.base_grammar.specs.declared.fault.BaseFault.TheVariants as faul
 
 use crate::fault::BaseFault;
 use crate::subgroup::{BaseEntry, Subgroup, stands_before};
-use bcast_base::{Bis, number_at, octet_at, octets_at, place_of};
+use bcast_base::{Bis, array_at, number_at, octet_at, octets_at, place_of};
 use ltv_codec::check_ltvs;
 
 // The next field is not whole.
@@ -41,7 +41,6 @@ pub(crate) fn octets_field<'a>(
 ) -> Result<(&'a [u8], &'a [u8]), BaseFault>
     requires { length rest.now ≤ length whole.now }
     ensures reads { Reads (λ x. (x.0.now, x.1.now)) result (field_at whole.now rest.now (octets_in k rest.now)) }
-    ensures long { IfOk result (λ x. length x.0.now ≡ k) }
     ensures shorter { IfOk result (λ x. length x.1.now ≤ length rest.now) }
 {
     match octets_at(rest, k) {
@@ -59,16 +58,10 @@ pub(crate) fn codec_field<'a>(
     ensures reads { Reads (λ x. (x.0, x.1.now)) result (field_at whole.now rest.now (octets_in 5 rest.now)) }
     ensures shorter { IfOk result (λ x. length x.1.now ≤ length rest.now) }
 {
-    let (codec, after) = octets_field(whole, rest, 5)?;
-    Ok((five_octets(codec), after))
-}
-
-// The five octets that there are.
-fn five_octets(from: &[u8]) -> [u8; 5]
-    requires { length from.now ≡ 5 }
-    ensures { result ≡ from.now }
-{
-    [from[0], from[1], from[2], from[3], from[4]]
+    match array_at(rest) {
+        Some(field) => Ok(field),
+        None => Err(short(whole, rest)),
+    }
 }
 
 // Octets behind one that counts them, which may have to be an LTV list.

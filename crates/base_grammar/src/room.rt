@@ -30,8 +30,7 @@ fn behind_subgroup(room: usize, from: &Subgroup) -> Option<usize>
     ensures { SomeIff result (length (subgroup from.now) ≤ room) (room - length (subgroup from.now)) }
 {
     let left = room
-        .checked_sub(3)?
-        .checked_sub(from.codec.len())?
+        .checked_sub(3 + from.codec.len())?
         .checked_sub(from.config.as_slice().len())?
         .checked_sub(from.metadata.as_slice().len())?;
     behind_entries(left, from.entries.as_slice())

@@ -112,10 +112,7 @@ impl Places {
         requires { index < length self.now.ring.items }
         ensures { result ≡ not (is_some (slice_index_or (kept_of self.now) index None)) }
     {
-        match self.ring.get(index) {
-            Some(place) => place.is_empty(),
-            None => true,
-        }
+        self.ring.get(index).unwrap().is_empty()
     }
 
     /// Keeps a framed PDU at this place.
@@ -127,9 +124,7 @@ impl Places {
         ensures max_pdu { self.new.max_pdu ≡ self.old.max_pdu }
         ensures kept { kept_of self.new ≡ slice_set (kept_of self.old) index (read_as segmented self.old.max_pdu pdu.now) }
     {
-        if let Some(place) = self.ring.get_mut(index) {
-            place.keep(pdu);
-        }
+        self.ring.get_mut(index).unwrap().keep(pdu);
     }
 
     /// What is kept at this place.
@@ -138,10 +133,7 @@ impl Places {
         ensures kept { read_as segmented self.now.max_pdu result.now ≡ slice_index_or (kept_of self.now) index None }
         ensures read { is_some (read_as segmented self.now.max_pdu result.now) ≡ nat_lt 0 (length result.now) }
     {
-        match self.ring.get(index) {
-            Some(place) => place.pdu(),
-            None => &[],
-        }
+        self.ring.get(index).unwrap().pdu()
     }
 
     /// Keeps nothing more at this place.
@@ -152,9 +144,7 @@ impl Places {
         ensures max_pdu { self.new.max_pdu ≡ self.old.max_pdu }
         ensures kept { kept_of self.new ≡ slice_set (kept_of self.old) index None }
     {
-        if let Some(place) = self.ring.get_mut(index) {
-            place.clear();
-        }
+        self.ring.get_mut(index).unwrap().clear();
     }
 
     /// Takes so many places out at the front, and puts them back at the end.

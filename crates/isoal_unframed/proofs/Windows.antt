@@ -1,9 +1,11 @@
 -- What is owed and held over a ring that is read from the open event's place on.
-use Rattle.isoal_unframed.proofs.Prelude.{ℕ, ◌≡◌, ◌+◌, ◌-◌, ◌*◌, ◌%◌, ◌<◌, ◌≤◌, Bool, not, cond, List, ◌++◌, length, map, take, drop, set, replicate, get_or, Option, None, is_some, sym, ap, ◌∙◌, inl, inr, arith, range_with_len, sum, cond-true, cond-false, lt-ltb, le-ltb, true≢false, false≢true, add-mul, drop-replicate, take-replicate, replicate-append-replicate, sum_by-map-range_with_len_more, BigInfo, horizon_of, per_event_of, per_unit_of, Content, Stay, window_of, placing, turned, place_of, place_at, owed_of, held_in_event, slot_in}
+use Rattle.isoal_unframed.proofs.Prelude.{ℕ, ◌≡◌, ◌+◌, ◌-◌, ◌*◌, ◌%◌, ◌<◌, ◌≤◌, Bool, not, cond, List, ◌++◌, length, map, take, drop, set, replicate, get_or, vec_len, Option, None, is_some, sym, ap, ◌∙◌, inl, inr, arith, range_with_len, sum, cond-true, cond-false, lt-ltb, le-ltb, true≢false, false≢true, add-mul, drop-replicate, take-replicate, replicate-append-replicate, sum_by-map-range_with_len_more, BigInfo, horizon_of, per_event_of, per_unit_of, Content, Stay, window_of, placing, kept_of, turned, place_of, place_at, owed_of, held_in_event, slot_in}
 use Rattle.isoal_base.specs.declared.heard.Heard.TheVariants.{Repeat, Kept}
 use Rattle.isoal_base.proofs.Citable.{map_same}
 use Rattle.isoal_unframed.specs.State.Opening.{IsOpen}
+use Rattle.isoal_unframed.specs.declared.ring.Ring.{Ring}
 use Rattle.isoal_unframed.specs.declared.stream.OpenEvent.{OpenEvent}
+use Rattle.isoal_unframed.proofs.Kept.{length-kept}
 use Rattle.isoal_unframed.proofs.Places.{slot_fits, event_fits}
 use Rattle.isoal_unframed.proofs.Turns.{take-turned, get-turned, set-turned, next_turn, turned_next, turned_round}
 
@@ -34,11 +36,12 @@ pub place_within : (info : BigInfo) (event : ℕ) → place_of info event + info
 place_within info event = event_fits event (horizon_of info) info.bn
 
 -- what `keep` answers where the number is in the window
-pub is_placed : (info : BigInfo) (current : OpenEvent) (number place : ℕ) (kept : List (Option Content)) (empty full : Bool)
-    → IsOpen info current → length kept ≡ window_of info → current.number ≤ number → number - current.number < window_of info
-    → place ≡ place_at info current.event (number - current.number) → empty ≡ not (is_some (get_or kept place None)) → empty ≡ not full
-    → placing info current.event (turned (place_of info current.event) kept) number ≡ cond full Repeat Kept
-is_placed info current number place kept empty full is size least below is_place is_empty is_full =
+pub is_placed : (info : BigInfo) (current : OpenEvent) (number place window : ℕ) (ring : Ring) (empty full : Bool)
+    → IsOpen info current → vec_len ring.cells ≡ window_of info → window ≡ window_of info → current.number ≤ number → number - current.number < window
+    → place ≡ place_at info current.event (number - current.number) → empty ≡ not (is_some (get_or (kept_of ring) place None)) → empty ≡ not full
+    → cond full Repeat Kept ≡ placing info current.event (turned (place_of info current.event) (kept_of ring)) number
+is_placed info current number place window ring empty full is room all least below is_place is_empty is_full =
+    let size : length (kept_of ring) ≡ window_of info = length-kept ring.max_pdu ring.cells.items ring.block.items ∙ sym ring.cells.ok.0 ∙ room in
     grind (arith, place_within, false≢true, true≢false, is_inside, get-turned)
 
 pub is_put : (info : BigInfo) (current : OpenEvent) (number place : ℕ) (kept new : List (Option Content)) (entry : Option Content) → IsOpen info current

@@ -11,7 +11,7 @@ use crate::fault::PacFault;
 use crate::record::PacRecord;
 use crate::records::Records;
 use base_grammar::is_lc3_codec;
-use bcast_base::{Items, Memory, Octets, octet_at, octets_at, place_of};
+use bcast_base::{Items, Memory, Octets, array_at, octet_at, octets_at, place_of};
 use ltv_codec::check_ltvs;
 use std::alloc::Global;
 
@@ -157,12 +157,12 @@ fn codec_at<'a>(whole: &[u8], from: &'a [u8]) -> Result<([u8; 5], &'a [u8]), Pac
     ensures exact { Reads (λ x. (x.0, x.1.now)) result (codec_in whole.now from.now) }
     ensures within { IfOk result (λ x. length x.1.now ≤ length whole.now) }
 {
-    let [a, b, c, d, e, rest @ ..] = from else {
-        return Err(PacFault::Short {
+    match array_at(from) {
+        Some(field) => Ok(field),
+        None => Err(PacFault::Short {
             place: place_of(whole, from),
-        });
-    };
-    Ok(([*a, *b, *c, *d, *e], rest))
+        }),
+    }
 }
 
 // A run of octets behind their count, and the octets after it. Where `listed`, the run is an LTV list.

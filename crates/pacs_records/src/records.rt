@@ -66,13 +66,22 @@ impl Records {
         ensures err { OnErr result (self.new ≡ self.old) }
         ensures refused { IfErr result (λ fault. RefusesPush fault self.old entry) }
     {
-        let size = self.size + 7 + entry.caps.as_slice().len() + entry.metadata.as_slice().len();
+        let size = self.size_with(&entry);
         if GREATEST_VALUE < size {
             return Err(PushFault::TooLong);
         }
         self.list.push(entry)?;
         self.size = size;
         Ok(())
+    }
+
+    // How many octets the value has with this record at the end.
+    fn size_with(&self, entry: &PacRecord) -> usize
+        requires caps_count { length entry.now.caps < 256 }
+        requires metadata_count { length entry.now.metadata < 256 }
+        ensures { result ≡ length (value (self.now ++ entry.now ∷ [])) }
+    {
+        self.size + 7 + entry.caps.as_slice().len() + entry.metadata.as_slice().len()
     }
 
     /// How many records there are.

@@ -1,6 +1,6 @@
-use Rattle.isoal_framed.proofs.Prelude.{arith, map-set, entry_in, All-set, IsPduOrNothing}
+use Rattle.isoal_framed.proofs.Prelude.{map-set, entry_in, All-set, IsPduOrNothing}
 use Rattle.isoal_framed.specs.declared.place.Place.{Place}
-use Rattle.isoal_framed.proofs.Rings.{not_there, pdu_there}
+use Rattle.isoal_framed.proofs.Rings.{pdu_there}
 use Rattle.isoal_framed.proofs.place.Places.put.Goals as goal
 
 pub invariant_of-self-clause-entries : goal.invariant_of-self-clause-entries
@@ -10,8 +10,5 @@ invariant_of-self-clause-entries c =
     (pdu_there c.args.self.now.max_pdu c.keep.new.self.count c.keep.new.self.octets.items c.args.pdu.now c.keep.ensures.octets c.keep.ensures.count c.requires.framed)
     c.args.self.now.entries
 
-pub returns-in-Some-clause-kept : goal.returns-in-Some-clause-kept
-returns-in-Some-clause-kept c = cc (map-set (entry_in c.args.self.now.max_pdu) c.args.self.now.ring.items c.args.index c.keep.new.self, c.keep.ensures.octets)
-
-pub returns-in_default-clause-kept : goal.returns-in_default-clause-kept
-returns-in_default-clause-kept c = grind (arith, not_there)
+pub returns-clause-kept : goal.returns-clause-kept
+returns-clause-kept c = cc (map-set (entry_in c.args.self.now.max_pdu) c.args.self.now.ring.items c.args.index c.keep.new.self, c.keep.ensures.octets)
