@@ -3,6 +3,7 @@ use Rattle.std.proofs.Common.{◌≡◌, ℕ, ◌+◌, ◌-◌, ◌<◌, ◌≤�
 use Rattle.std.proofs.lemmas.List.{length-map}
 use Rattle.std.proofs.lemmas.List.Elements.{All-contains, All-push, All-rest, All-take, Contains-push}
 use Rattle.std.proofs.Math.Seq.{take-append_seam}
+use Rattle.std.specs.Prelude.{slice_get}
 use Rattle.unit_outlets.specs.Handed.{Handed, valid, lost, HandsOver, Caused}
 use Rattle.unit_outlets.specs.declared.fault.TakerFault.{TakerFault}
 use Rattle.unit_outlets.specs.declared.fault.TakerFault.TheVariants.{Failed, Memory}
@@ -184,6 +185,11 @@ pub taken_first : {X : Type 0} (entries rest : List X) (gone : X) → 0 < length
     → rest ≡ take 0 entries ++ drop (0 + 1) entries → entries ≡ gone ∷ rest
 taken_first [] rest gone some first others = absurd (Prim.omega (arith, some))
 taken_first (entry ∷ entries) rest gone some first others = ap (λ x. x ∷ entries) (sym first) ∙ ap (λ xs. gone ∷ xs) (sym others)
+
+pub shown_first : {X : Type 0} (entries rest seen : List X) (gone entry : X) → entries ≡ gone ∷ rest → seen ≡ entries
+    → Some entry ≡ slice_get seen 0 → entry ≡ gone
+shown_first entries rest seen gone entry is same first =
+    let some : Some entry ≡ Some gone = first ∙ ap (λ xs. slice_get xs 0) (same ∙ is) in cc
 
 -- and its room waits, where there is a place for it
 pub one_less : (places octets capacity rooms more : ℕ) (entries rest : List Entry) (gone : Entry) → entries ≡ gone ∷ rest

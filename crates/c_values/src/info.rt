@@ -36,11 +36,11 @@ pub struct AirBigInfo {
 pub fn info_in(from: &AirBigInfo) -> BigInfo
     ensures { result ≡ big_info from.now }
 {
+    let from = *from;
+    let giv = from.giv;
+    let gskd = from.gskd;
     let cipher = if from.is_encrypted {
-        Some(Cipher {
-            giv: from.giv,
-            gskd: from.gskd,
-        })
+        Some(Cipher { giv, gskd })
     } else {
         None
     };
@@ -105,6 +105,7 @@ fn with_cipher(info: &BigInfo, is_encrypted: bool, giv: [u8; 8], gskd: [u8; 16])
       gskd = gskd;
     } }
 {
+    let info = *info;
     AirBigInfo {
         chm: info.chm,
         bis_payload_count: info.bis_payload_count,
