@@ -39,7 +39,7 @@ impl Sinks {
         ensures { (past : Histories) (source : Source) → IsFrom origin source → SinksStand past self.old
             → SinkLineMakes past sink source step self.new text.old text.new result }
     {
-        run_entry(&mut self.entries[usize::from(sink)], step, origin, text)
+        run_entry(&mut self.entries[sink as usize], step, origin, text)
     }
 
     /// Runs a line that names the sink of this number and says the operation of these octets, as `line` does: it prints nothing. It is
@@ -49,7 +49,7 @@ impl Sinks {
         ensures { (past : Histories) (source : Source) (step : Said) (text : List ℕ) → Operates step octets.now → SinksStand past self.old
             → SinkLineMakes past sink source step self.new text text result }
     {
-        operate_entry(&mut self.entries[usize::from(sink)], octets)
+        operate_entry(&mut self.entries[sink as usize], octets)
     }
 
     /// Runs a line that names the sink of this number and comes again and again, as `line` does.
@@ -58,7 +58,7 @@ impl Sinks {
         ensures { (past : Histories) (source : Source) → SinksStand past self.old
             → SinkLineMakes past sink source (call_step call sink) self.new text.old text.new result }
     {
-        call_entry(&mut self.entries[usize::from(sink)], call, sink, text)
+        call_entry(&mut self.entries[sink as usize], call, sink, text)
     }
 
     /// `train`: hands the sink of this number a train that is given by its octets, as `line` does, at this time in µs (Basic Audio Profile
@@ -79,7 +79,7 @@ impl Sinks {
             → SinkLineMakes past sink source (TrainStep sink time ext.now adv.now acad.now) self.new text.old text.new result }
     {
         train_entry(
-            &mut self.entries[usize::from(sink)],
+            &mut self.entries[sink as usize],
             sink,
             origin,
             time,
@@ -105,12 +105,6 @@ impl Sinks {
         ensures { (past : Histories) (source : Source) → IsFrom origin source → source.announced ≡ train.now → SinksStand past self.old
             → SinkLineMakes past sink source (Announce sink) self.new text.old text.new result }
     {
-        announce_entry(
-            &mut self.entries[usize::from(sink)],
-            sink,
-            origin,
-            train,
-            text,
-        )
+        announce_entry(&mut self.entries[sink as usize], sink, origin, train, text)
     }
 }

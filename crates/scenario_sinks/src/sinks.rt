@@ -15,9 +15,6 @@ use sync_reference::BigSync;
 use transcript_text::{Refusal, Stop};
 use unit_outlets::Outlet;
 
-/// The most sinks that live at once.
-const SINKS: usize = 8;
-
 /// The sinks of a scenario, with the numbers 0 to 7.
 #[derive(Drop)]
 pub struct Sinks {
@@ -60,7 +57,7 @@ impl Sinks {
         requires { sink ≤ 7 }
         ensures { (past : Histories) → SinksStand past self.now → result ≡ is_some (past.boxes sink) }
     {
-        self.entries[usize::from(sink)].is_some()
+        self.entries[sink as usize].is_some()
     }
 
     /// Makes a sink with the next box, of so many. It takes so many streams at once, 1 to 31, has so many slots, 1 to 8, goes on
@@ -87,7 +84,7 @@ impl Sinks {
             (with_sink sink (record { setup = record { streams = streams; slots = slots; horizon = horizon }; mtu = mtu }) past)
             self.new result }
     {
-        let place = usize::from(sink);
+        let place = sink as usize;
         if self.entries[place].is_some() {
             return Err(Stop::Refused(Refusal::SinkTwice));
         }
@@ -117,14 +114,14 @@ impl Sinks {
         ensures text { (past : Histories) → SinksStand past self.old
             → Puts (sum_where (map account outlets.now.items) sink (past.boxes sink)) text.old text.new result }
     {
-        let Some(entry) = &self.entries[usize::from(sink)] else {
+        let Some(entry) = &self.entries[sink as usize] else {
             return Err(Stop::Refused(Refusal::NoSuchSink));
         };
         match put_sum_at(sink, entry.outlet, outlets, text) {
             Ok(()) => {}
             Err(Memory) => return Err(Stop::Memory),
         }
-        put_entry(&mut self.entries, usize::from(sink), None);
+        put_entry(&mut self.entries, sink as usize, None);
         Ok(())
     }
 
@@ -136,7 +133,7 @@ impl Sinks {
             → Tunes (not_tuned (past.boxes sink) big_sync.now.info.num_bis big_sync.now.which) past
             (with_tuning sink source big_sync.now past) self.new result }
     {
-        tune_entry(&mut self.entries[usize::from(sink)], source, big_sync)
+        tune_entry(&mut self.entries[sink as usize], source, big_sync)
     }
 
     /// Hands a sink octets in the place of a PDU of a source: in a subevent, from 0, of an event of a stream. The answer is
@@ -156,7 +153,7 @@ impl Sinks {
         ensures { (past : Histories) → SinksStand past self.old → Hears past sink source event bis subevent octets.now self.new result }
     {
         hear_entry(
-            &mut self.entries[usize::from(sink)],
+            &mut self.entries[sink as usize],
             source,
             event,
             bis,
@@ -181,13 +178,7 @@ impl Sinks {
         ensures { (past : Histories) → SinksStand past self.old
             → SinksStand (with_heard sink source event bis (E.pdus sent.now) past) self.new }
     {
-        hear_event_entry(
-            &mut self.entries[usize::from(sink)],
-            source,
-            event,
-            bis,
-            sent,
-        );
+        hear_event_entry(&mut self.entries[sink as usize], source, event, bis, sent);
     }
 
     /// What a sink would answer in `hear`: none where no sink of this number lives. It changes nothing.
@@ -206,7 +197,7 @@ impl Sinks {
             → result ≡ hearing_where (past.boxes sink) (past.sources sink) (past.received sink) source event bis subevent octets.now }
     {
         answer_entry(
-            &self.entries[usize::from(sink)],
+            &self.entries[sink as usize],
             source,
             event,
             bis,
@@ -222,7 +213,7 @@ impl Sinks {
         ensures { (past : Histories) → SinksStand past self.now
             → IfOk result (λ octets. octets ≡ state_where (past.mades sink) (past.lives sink) slot) }
     {
-        state_of_entry(&self.entries[usize::from(sink)], slot)
+        state_of_entry(&self.entries[sink as usize], slot)
     }
 
     /// Closes the open event of a source, where one is open: the sinks of the source hand their units up, by rising number
@@ -312,14 +303,7 @@ impl Sinks {
 fn no_sinks(alloc: Global) -> Result<Vec<Option<Sink>>, Memory>
     ensures { IfOk result (λ sinks. sinks.items ≡ replicate 8 None) }
 {
-    let mut sinks = Vec::new(alloc);
-    'sinks: for _ in 0..SINKS {
-        match sinks.push(None) {
-            Ok(()) => continue 'sinks,
-            Err(_) => return Err(Memory),
-        }
-    }
-    Ok(sinks)
+    Ok(vec![in alloc; None, None, None, None, None, None, None, None]?)
 }
 
 /// Puts an entry in the place of another.

@@ -6,8 +6,8 @@ use Rattle.scenario_sinks.proofs.sinks.Sinks.announce.Goals as goal
 pub returns : goal.returns
 returns c past source from announced stands =
     let eight = sym c.args.self.now.entries.ok.0 ∙ c.args.self.now.eight in
-    let entry = entry_read past c.args.sink c.from.result c.args.self.now.entries.items c.index_mut.result.now c.from.ensures eight (omega arith) c.index_mut.ensures.value stands.entries in
-    ran c.args.sink c.from.result source (Announce c.args.sink) past c.args.self.now _ c.announce_entry.new.entry c.args.text.now c.announce_entry.new.text c.announce_entry.result
-    stands c.from.ensures (omega arith) eight
+    let entry = entry_read past c.args.sink c.args.sink c.args.self.now.entries.items c.index_mut.result.now refl eight (omega arith) c.index_mut.ensures.value stands.entries in
+    ran c.args.sink c.args.sink source (Announce c.args.sink) past c.args.self.now _ c.announce_entry.new.entry c.args.text.now c.announce_entry.new.text c.announce_entry.result
+    stands refl (omega arith) eight
     (c.announce_entry.ensures source (past.boxes c.args.sink) (past.mades c.args.sink) (past.sources c.args.sink) (past.lives c.args.sink) (past.received c.args.sink) from announced entry)
     refl refl refl

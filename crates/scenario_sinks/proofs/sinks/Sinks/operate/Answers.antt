@@ -6,7 +6,7 @@ use Rattle.scenario_sinks.proofs.sinks.Sinks.operate.Goals as goal
 pub returns : goal.returns
 returns c past source step text is stands =
     let eight = sym c.args.self.now.entries.ok.0 ∙ c.args.self.now.eight in
-    let entry = entry_read past c.args.sink c.from.result c.args.self.now.entries.items c.index_mut.result.now c.from.ensures eight (omega arith) c.index_mut.ensures.value stands.entries in
-    ran c.args.sink c.from.result source step past c.args.self.now _ c.operate_entry.new.entry text text c.operate_entry.result
-    stands c.from.ensures (omega arith) eight
+    let entry = entry_read past c.args.sink c.args.sink c.args.self.now.entries.items c.index_mut.result.now refl eight (omega arith) c.index_mut.ensures.value stands.entries in
+    ran c.args.sink c.args.sink source step past c.args.self.now _ c.operate_entry.new.entry text text c.operate_entry.result
+    stands refl (omega arith) eight
     (c.operate_entry.ensures source step (past.boxes c.args.sink) (past.mades c.args.sink) (past.sources c.args.sink) (past.lives c.args.sink) (past.received c.args.sink) text is entry) refl refl refl
