@@ -59,3 +59,6 @@ returns-else-end-clause-served c = λ setup calls stands has _.
     let all = brought.served (subst (λ kept. HasRoom (room_kept kept) (length (units_kept kept)) (handed_at (group_calls setup calls) c.args.event)) c.lend-machine.ensures.value has) in
     let none = c.if-end.false in
     absurd (Prim.grind (arith, all, none))
+
+pub returns-then-event-clause-in_range : goal.returns-then-event-clause-in_range
+returns-then-event-clause-in_range c = λ less _. absurd (Prim.omega (arith, less, c.if-event.true))

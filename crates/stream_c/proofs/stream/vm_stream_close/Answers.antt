@@ -1,5 +1,8 @@
-use Rattle.stream_c.proofs.Prelude.{◌++◌, length, take, arith, ap, subst, sym, ◌∙◌, Brought, HasRoom, units_at_close, KeptStands, room_kept, units_kept}
+use Rattle.stream_c.proofs.Prelude.{◌≡◌, ◌++◌, List, Call, Stay, opened, length, take, arith, ap, subst, sym, ◌∙◌, Brought, HasRoom, units_at_close, KeptStands, room_kept, units_kept}
 use Rattle.stream_c.proofs.Handing.{brought_by}
+use Rattle.stream_c.specs.Streams.{StandsBy, event_of}
+use Rattle.stream_c.specs.declared.receiver.Receiver.{Receiver}
+use Rattle.stream_c.specs.declared.receiver.Receiver.TheVariants.{Framed, Unframed}
 use Rattle.stream_c.proofs.stream.vm_stream_close.Goals as goal
 
 pub returns-then-end-clause-stands : goal.returns-then-end-clause-stands
@@ -50,3 +53,13 @@ returns-else-end-clause-served c = λ stay calls stands has _.
     let all = brought.served (subst (λ kept. HasRoom (room_kept kept) (length (units_kept kept)) (units_at_close stay calls)) c.lend-machine.ensures.value has) in
     let none = c.if-end.false in
     absurd (Prim.grind (arith, all, none))
+
+opened_at : (stay : Stay) (calls : List Call) (receiver : Receiver) → StandsBy stay calls receiver → event_of receiver ≡ opened stay calls
+opened_at stay calls (Unframed window) is = is.stands.event_is ∙ ap (λ s. opened s calls) is.stay_is
+opened_at stay calls (Framed window) is = is.stands.hearing.event_is ∙ ap (λ s. opened s calls) is.stay_is
+
+pub returns-then-open_event-clause-ends : goal.returns-then-open_event-clause-ends
+returns-then-open_event-clause-ends c = λ stay calls stands less _.
+    let machine = c.lend-machine.result.now in
+    let event = opened_at stay calls machine.receiver (subst (KeptStands stay calls) c.lend-machine.ensures.value stands).by_framing in
+    absurd (Prim.omega (arith, event, less, c.open_event.ensures.event, c.if-open_event.true))
