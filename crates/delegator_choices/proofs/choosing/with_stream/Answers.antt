@@ -1,0 +1,5 @@
+use Rattle.std.proofs.Common.{refl}
+use Rattle.delegator_choices.proofs.choosing.with_stream.Goals as goal
+
+pub returns-clause-room : goal.returns-clause-room
+returns-clause-room c = refl
