@@ -46,8 +46,7 @@ said_behind entries metadata (describes said ∷ earlier) =
     ∙ last_changes_on (filled [] (Some said)) (filled entries metadata) (filled entries (option_or metadata (Some said))) (subgroups_in earlier) (described_then entries metadata said))
 said_behind entries metadata (adds bis config ∷ earlier) =
     let e : BaseEntry = record { bis = bis; config = config } in
-    said_behind (e ∷ entries) metadata earlier
-    ∙ sym (ap (with_last (filled entries metadata)) (said_behind (e ∷ []) None earlier)
+    said_behind (e ∷ entries) metadata earlier ∙ sym (ap (with_last (filled entries metadata)) (said_behind (e ∷ []) None earlier)
     ∙ last_changes_on (filled (e ∷ []) None) (filled entries metadata) (filled (e ∷ entries) metadata) (subgroups_in earlier) (added_then entries metadata e))
 
 same_on_last : (one other : Subgroup → Subgroup) (ss : List Subgroup) → ((s : Subgroup) → one s ≡ other s) → with_last one ss ≡ with_last other ss

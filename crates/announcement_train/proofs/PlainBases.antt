@@ -13,8 +13,7 @@ last_of_range start zero =
 last_of_range start (suc n) =
     let more : suc n + 1 ≡ suc (n + 1) = omega arith in
     let next : start + 1 + n ≡ start + suc n = omega arith in
-    ap (λ k. map plain_entry (range_with_len start k)) more
-    ∙ ap (λ xs. plain_entry start ∷ xs) (last_of_range (start + 1) n)
+    ap (λ k. map plain_entry (range_with_len start k)) more ∙ ap (λ xs. plain_entry start ∷ xs) (last_of_range (start + 1) n)
     ∙ ap (λ bis. plain_entry start ∷ map plain_entry (range_with_len (start + 1) n) ++ plain_entry bis ∷ []) next
 
 pub entries_more : (n : ℕ) → plain_entries (n + 1) ≡ plain_entries n ++ plain_entry (n + 1) ∷ []
@@ -69,8 +68,7 @@ wants_memory v delay n bis fault v_is bis_is refuses =
 pub put_is : (v new : Endpoint) (delay n bis : ℕ) → v ≡ plain_base_of delay n → bis ≡ n + 1
     → new ≡ with_entry (record { bis = bis; config = [] }) v → new ≡ plain_base_of delay (n + 1)
 put_is v new delay n bis v_is bis_is new_is =
-    new_is ∙ ap (with_entry (record { bis = bis; config = [] })) v_is
-    ∙ ap (λ b. with_entry (plain_entry b) (plain_base_of delay n)) bis_is
+    new_is ∙ ap (with_entry (record { bis = bis; config = [] })) v_is ∙ ap (λ b. with_entry (plain_entry b) (plain_base_of delay n)) bis_is
     ∙ ap (λ es. endpoint delay (record { codec = lc3; config = []; metadata = []; entries = es } ∷ [])) (sym (entries_more n))
 
 pub plain_is_small : (delay n : ℕ) → n ≤ 31 → ltb 252 (length (encoding (plain_base_of delay n))) ≡ false

@@ -56,8 +56,7 @@ cipher_length None octets is = omega (arith, ap length is)
 cipher_length (Some cipher) octets is = omega (arith, ap length is.2, length-append cipher.giv cipher.gskd, is.0, is.1)
 
 info_length : (info : BigInfo) (rfu : ℕ) (octets : List ℕ) → Encodes info rfu octets → length octets ≤ 57
-info_length info rfu octets is =
-    omega (arith, cipher_length info.cipher (drop 33 octets) is.cipher, length-drop 33 octets)
+info_length info rfu octets is = omega (arith, cipher_length info.cipher (drop 33 octets) is.cipher, length-drop 33 octets)
 
 info_told : (info : BigInfo) (octets : List ℕ) → Encodes info 0 octets → TellsInfo (structure (info_ad octets)) info
 info_told info octets is = record {

@@ -125,8 +125,7 @@ told_settled language slot notice true false waits view value is back carries no
     ap (λ o. unwrap_or o view) (ap language.reading whole ∙ ap (λ v. language.reading (language.encode v)) same ∙ back)
 
 served_settled : {V : Type 0} (language : Language V) (b waits : Bool) (view value : V) (before : Option V) → IsReadBack language value
-    → (before ≡ None → waits ≡ false → view ≡ value)
-    → before ≡ None → unwrap_or (if_its b (Some false)) waits ≡ false
+    → (before ≡ None → waits ≡ false → view ≡ value) → before ≡ None → unwrap_or (if_its b (Some false)) waits ≡ false
     → unwrap_or (if_its b (language.reading (language.encode value))) view ≡ value
 served_settled language true waits view value before back is none quiet = ap (λ o. unwrap_or o view) back
 served_settled language false waits view value before back is none quiet = is none quiet
@@ -141,8 +140,7 @@ told_is language slot notice rest waiting waits view value is back s =
       last = λ carried e. s.last carried (ap (λ o. option_or o here) e);
       settled = λ none quiet.
           told_settled language slot notice (notice.slot == slot) (asks language.mtu (cut language.mtu (language.encode notice.value))) waits view value refl back
-          (λ e. s.last notice.value (ap (λ o. option_or o here) none ∙ e))
-          (λ e. s.settled (ap (λ o. option_or o here) none ∙ e)) quiet;
+          (λ e. s.last notice.value (ap (λ o. option_or o here) none ∙ e)) (λ e. s.settled (ap (λ o. option_or o here) none ∙ e)) quiet;
     })
 
 settles : {V : Type 0} (language : Language V) (slot : ℕ) (acts : List (Act V)) → AreFounded acts → AreReadBack language acts

@@ -49,8 +49,7 @@ none_waits_then acts founded =
     let n : ℕ = length (waiting_of acts) in
     let l : n ≡ length (notices_of acts) - delivered_of acts = length-drop (delivered_of acts) (notices_of acts) in
     let h : delivered_of acts ≤ length (notices_of acts) = delivered_within acts founded in
-    ap (λ xs. drop (delivered_of (tell_all n acts)) xs) (told_notices n acts)
-    ∙ ap (λ k. drop k (notices_of acts)) (told_delivered n acts)
+    ap (λ xs. drop (delivered_of (tell_all n acts)) xs) (told_notices n acts) ∙ ap (λ k. drop k (notices_of acts)) (told_delivered n acts)
     ∙ drop_all (n + delivered_of acts) (notices_of acts) (omega (arith, l, h))
 
 -- ---- reads
@@ -117,10 +116,8 @@ drained_agrees language slots slot acts below founded back plain =
     let out = notified_out acts in
     let reads : List ℕ = reads_of language slots out in
     let P : List (Notice _) → Type 0 = λ waiting. AllByRecursion (λ notice. (notice.slot == slot) ≡ false) waiting in
-    agrees language slot (serve_all reads out)
-    (served_founded reads out (told_founded n acts founded (omega (arith, l, h))))
-    (served_back language reads out (told_back language n acts back))
-    (served_plain reads out ∙ told_plain n acts ∙ plain)
+    agrees language slot (serve_all reads out) (served_founded reads out (told_founded n acts founded (omega (arith, l, h))))
+    (served_back language reads out (told_back language n acts back)) (served_plain reads out ∙ told_plain n acts ∙ plain)
     (subst P (sym (served_waiting reads out ∙ none_waits_then acts founded)) tt)
     (quiet_then language slots slot out (waits_of language slot out) below refl)
     ∙ served_value language slot reads out ∙ told_value language slot n acts

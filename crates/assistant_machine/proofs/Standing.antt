@@ -166,8 +166,7 @@ view_told slot at value calls q r e f =
 
 waits_told : (slot at : ℕ) (value : List ℕ) (calls : List Call) (q : Bool) → asks (mtu_of calls) value ≡ q
     → unwrap_or (if_slot ((at == slot) && q) (Some true)) (waits_of slot calls) ≡ waits_of slot (notified at value ∷ calls)
-waits_told slot at value calls q e =
-    ap (λ (q : Bool). unwrap_or (if_slot ((at == slot) && q) (Some true)) (waits_of slot calls)) (sym e)
+waits_told slot at value calls q e = ap (λ (q : Bool). unwrap_or (if_slot ((at == slot) && q) (Some true)) (waits_of slot calls)) (sym e)
 
 view_read : (slot at : ℕ) (value : List ℕ) (calls : List Call) (r : Option (Option ReceiveState)) → reading_of value ≡ r
     → unwrap_or (if_slot (at == slot) r) (view_of slot calls) ≡ view_of slot (read at value ∷ calls)

@@ -66,8 +66,7 @@ ads_read_at : (ads : List Ltv) (octets prefix : List ℕ) (ignored : List ℕ) �
 ads_read_at ads octets prefix ignored l parts =
     let bad : IsBad (ZeroLength (length prefix)) octets = (ads, prefix, 0 ∷ ignored, l, refl, refl, parts) in
     let prefix_is : take (length prefix) octets ≡ prefix = ap (take (length prefix)) parts ∙ take_at prefix (0 ∷ ignored) (length prefix) refl in
-    ap (ads_read octets) (bad_read (ZeroLength (length prefix)) octets bad)
-    ∙ ap (λ (os : List ℕ). Ok (ltvs_in os)) prefix_is
+    ap (ads_read octets) (bad_read (ZeroLength (length prefix)) octets bad) ∙ ap (λ (os : List ℕ). Ok (ltvs_in os)) prefix_is
     ∙ ap (λ (r : Result (List Ltv) LtvBad). Ok (result_unwrap_or r [])) (list_read ads prefix l)
 
 pub ads_read_so : (ads : List Ltv) (octets : List ℕ) → IsAdList ads octets → ads_of octets ≡ Ok ads

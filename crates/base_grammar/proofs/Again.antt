@@ -58,8 +58,7 @@ subgroups_again whole before [] rest fit streams are_new = refl
 subgroups_again whole before (s ∷ ss) rest fit streams are_new =
     let regrouped : flat_map subgroup (s ∷ ss) ++ rest ≡ subgroup s ++ (flat_map subgroup ss ++ rest) = grind (arith, flat_map-cons, subgroup, append_assoc, flat_map) in
     let all : AreNew before (map bis_of s.entries ++ indices ss) = subst (AreNew before) (flat_map-cons (λ (x : Subgroup). map bis_of x.entries) s ss) are_new in
-    ap (subgroups_at whole before (suc (length ss))) regrouped
-    ∙ rw (
+    ap (subgroups_at whole before (suc (length ss))) regrouped ∙ rw (
       subgroup_again whole before s (flat_map subgroup ss ++ rest) fit.0 streams.0 (AreNew-first before (map bis_of s.entries) (indices ss) all),
       subgroups_again whole (before ++ map bis_of s.entries) ss rest fit.1 streams.1 (AreNew-second before (map bis_of s.entries) (indices ss) all),
     ) refl

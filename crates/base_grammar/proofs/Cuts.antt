@@ -28,8 +28,7 @@ entry_comes whole is_list streams subgroups before rest a =
     (run_at whole is_list bis.1) _
     (run_comes whole (due_at bis_config_length is_list streams subgroups (before ++ bis.0 ∷ [])) (λ x. due_at (bis_config x) is_list streams subgroups (before ++ bis.0 ∷ []))
     (entered is_list streams subgroups (before ++ bis.0 ∷ [])) is_list bis.1
-    (grind (arith, behind_entry_row, bis_config, bis_config_length)) a1)
-    (λ config _ a2. a2))
+    (grind (arith, behind_entry_row, bis_config, bis_config_length)) a1) (λ config _ a2. a2))
 
 abbrev grouped : Bool → ℕ → List ℕ → Due
 grouped is_list subgroups before = behind_subgroup subgroups (due_at bis_config_length is_list 1 subgroups before)
@@ -42,8 +41,7 @@ entries_come whole is_list zero subgroups before rest a =
     (entry_at whole is_list before rest) _ (entry_comes whole is_list 1 subgroups before rest a) (λ first _ a1. a1)
 entries_come whole is_list (suc n) subgroups before rest a =
     comes_then whole (λ (e : BaseEntry). entered is_list (suc (suc n)) subgroups (before ++ e.bis ∷ [])) (λ (es : List BaseEntry). grouped is_list subgroups (before ++ map bis_of es))
-    (entry_at whole is_list before rest) _ (entry_comes whole is_list (suc (suc n)) subgroups before rest a)
-    (λ first _ a1.
+    (entry_at whole is_list before rest) _ (entry_comes whole is_list (suc (suc n)) subgroups before rest a) (λ first _ a1.
     comes_then whole (λ (es : List BaseEntry). grouped is_list subgroups ((before ++ first.0.bis ∷ []) ++ map bis_of es)) (λ (es : List BaseEntry). grouped is_list subgroups (before ++ map bis_of es))
     (entries_at whole is_list (before ++ first.0.bis ∷ []) (suc n) first.1) _ (entries_come whole is_list n subgroups (before ++ first.0.bis ∷ []) first.1 a1)
     (λ others _ a2. subst (λ (bs : List ℕ). At whole (grouped is_list subgroups bs) others.1) (append_assoc before (first.0.bis ∷ []) (map bis_of others.0)) a2))
@@ -64,8 +62,7 @@ subgroup_comes whole is_list streams subgroups before rest a =
     (ruled_octet_comes whole (due_at num_bis is_list streams subgroups before) rest (streams_fault (place_in whole rest)) a tt refl (λ x. refl))
     (λ count read a1.
     comes_then whole (λ codec. due_at config_length (is_lc3 codec) count.0 subgroups before) (subgrouped subgroups before) (field_at whole count.1 (octets_in 5 count.1)) _
-    (octets_come whole (due_at codec_id is_list count.0 subgroups before) 5 count.1 a1 tt refl (λ field. refl))
-    (λ codec _ a2.
+    (octets_come whole (due_at codec_id is_list count.0 subgroups before) 5 count.1 a1 tt refl (λ field. refl)) (λ codec _ a2.
     comes_then whole (λ (_ : List ℕ). due_at metadata_length (is_lc3 codec.0) count.0 subgroups before) (subgrouped subgroups before) (run_at whole (is_lc3 codec.0) codec.1) _
     (run_comes whole (due_at config_length (is_lc3 codec.0) count.0 subgroups before) (λ x. due_at (config x) (is_lc3 codec.0) count.0 subgroups before)
     (due_at metadata_length (is_lc3 codec.0) count.0 subgroups before) (is_lc3 codec.0) codec.1
@@ -78,8 +75,7 @@ subgroup_comes whole is_list streams subgroups before rest a =
     (λ told _ a4.
     let n : count.0 ≡ suc (count.0 - 1) = more_than count.0 (streams_take whole rest count.0 count.1 read).1 in
     comes_then whole (λ (es : List BaseEntry). grouped (is_lc3 codec.0) subgroups (before ++ map bis_of es)) (subgrouped subgroups before) (entries_at whole (is_lc3 codec.0) before count.0 told.1) _
-    (grind (arith, is_lc3, map, bis_of, entries_come, bis_index))
-    (λ entries _ a5. a5)))))
+    (grind (arith, is_lc3, map, bis_of, entries_come, bis_index)) (λ entries _ a5. a5)))))
 
 -- all of them were read, and nothing is due, or reading stopped at the cut
 abbrev pub Finishes : {A : Type 0} → List ℕ → Result (A × List ℕ) BaseFault → Type 0
@@ -103,8 +99,7 @@ subgroups_finish whole is_list streams zero before rest a =
 subgroups_finish whole is_list streams (suc n) before rest a =
     finishes_then whole (subgrouped (suc (suc n)) before) (subgroup_at whole before rest)
     (λ first. subgroups_at whole (before ++ map bis_of first.0.entries) (suc n) first.1 >>= λ others. Ok (first.0 ∷ others.0, others.1))
-    (subgroup_comes whole is_list streams (suc (suc n)) before rest a)
-    (λ first a1.
+    (subgroup_comes whole is_list streams (suc (suc n)) before rest a) (λ first a1.
     finishes_more whole (subgroups_at whole (before ++ map bis_of first.0.entries) (suc n) first.1) (λ (ss : List Subgroup). first.0 ∷ ss)
     (subgroups_finish whole (is_lc3 first.0.codec) 1 n (before ++ map bis_of first.0.entries) first.1 a1))
 
@@ -139,8 +134,7 @@ fields_end whole =
     (number_comes whole first_due (due_at num_subgroups false 0 0 []) 3 whole (at_first whole) tt refl (λ field. refl) (λ field. refl))
     (λ delay _ a1.
     ends_then whole (λ n. due_at num_bis false 0 n []) (count_at whole delay.1) (λ count. subgroups_at whole [] count.0 count.1 >>= λ subgroups. ended whole subgroups.1 (endpoint delay.0 subgroups.0))
-    (ruled_octet_comes whole (due_at num_subgroups false 0 0 []) delay.1 subgroups_fault a1 tt refl (λ x. refl))
-    (λ count read a2.
+    (ruled_octet_comes whole (due_at num_subgroups false 0 0 []) delay.1 subgroups_fault a1 tt refl (λ x. refl)) (λ count read a2.
     let n : count.0 ≡ suc (count.0 - 1) = more_than count.0 (count_takes whole delay.1 count.0 count.1 read).1 in
     all_ended whole delay.0 (subgroups_at whole [] count.0 count.1)
     (grind (arith, subgroups_finish whole false 0 (count.0 - 1) [] count.1 (subst (λ (m : ℕ). At whole (due_at num_bis false 0 m []) count.1) n a2)))))

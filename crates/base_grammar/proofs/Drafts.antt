@@ -108,8 +108,7 @@ with_entry_keeps delay e old new (Ok x) d list range ok err refuses =
     rw ok (record {
       delay = d.delay;
       streams = rw (closed-with_last (λ s. record s { entries = s.entries ++ e ∷ [] }) old) d.streams;
-      fits = fits_with_last (λ s. record s { entries = s.entries ++ e ∷ [] }) old
-          (grind (arith, all_push, is_lc3)) d.fits;
+      fits = fits_with_last (λ s. record s { entries = s.entries ++ e ∷ [] }) old (grind (arith, all_push, is_lc3)) d.fits;
       once = rw (indices-with_last (λ s. record s { entries = s.entries ++ e ∷ [] }) (e.bis ∷ []) old (λ s. map_push bis_of s.entries e) is_new.0)
           (AreNew-then [] (indices old) (e.bis ∷ []) d.once (AreNew-one (indices old) e.bis is_new.1));
     })

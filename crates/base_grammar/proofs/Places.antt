@@ -68,8 +68,7 @@ effective_found v bis (Some e) h =
       stands = subst (λ (n : ℕ). slice_get v.subgroups n ≡ Some f.subgroup) there f.stands;
       has = f.has;
       index = f.index;
-      values =
-          f.values;
+      values = f.values;
     }
 
 -- ---- something is found where the index stands

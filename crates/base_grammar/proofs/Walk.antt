@@ -157,8 +157,7 @@ pub run_comes : (whole : List ℕ) (due : Due) (middle : ℕ → Due) (last : Du
 unfolding run_at
 run_comes whole due middle last is_list rest r a =
     comes_then whole (λ x. next_due due.row due (x ∷ [])) (λ _. last) (field_at whole rest (octet_in rest)) _
-    (octet_comes whole due rest a r.is_due r.one (r.sound (place_in whole rest)))
-    (λ count _ a1.
+    (octet_comes whole due rest a r.is_due r.one (r.sound (place_in whole rest))) (λ count _ a1.
     comes_same whole (λ field. next_due (middle count.0).row (middle count.0) field) (λ _. last)
     (field_at whole count.1 (octets_in count.0 count.1) >>= λ run. unless (run_fault (place_in whole count.1) is_list run.0) run) (r.behind count.0)
     (ruled_octets_come whole (middle count.0) count.0 count.1 (run_fault (place_in whole count.1) is_list)

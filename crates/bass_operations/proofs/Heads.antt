@@ -42,8 +42,7 @@ add_head_takes from x h e =
     let t5 = number_takes 2 s4.0.1 s5.0.0 s5.0.1 h4 s5.1 in
     let h5 : IsOctets s5.0.1 = t5.0.fits h4 in
     let t6 = octet_takes s5.0.1 s6.0.0 s6.0.1 s6.1 in
-    let parts = t0.parts ∙ ap (λ (z : List ℕ). octet s0.0.0 ++ z)
-    (t1.0.parts ∙ ap (λ (z : List ℕ). s1.0.0 ++ z)
+    let parts = t0.parts ∙ ap (λ (z : List ℕ). octet s0.0.0 ++ z) (t1.0.parts ∙ ap (λ (z : List ℕ). s1.0.0 ++ z)
     (t2.parts ∙ ap (λ (z : List ℕ). octet s2.0.0 ++ z)
     (t3.0.parts ∙ ap (λ (z : List ℕ). s3.0.0 ++ z) (t4.parts ∙ ap (λ (z : List ℕ). octet s4.0.0 ++ z) (t5.0.parts ∙ ap (λ (z : List ℕ). number 2 s5.0.0 ++ z) (t6.parts)))))) in
     let read : AddSource × ℕ × List ℕ =

@@ -20,8 +20,7 @@ add_laid rest op h e =
     let parts : rest ≡ add_before a.0.0 (length b.0) (laid (flat_map wish_fields b.0)) =
     t.parts ∙ (ap (add_before a.0.0 a.0.1) s.encoded ∙ ap (λ (n : ℕ). add_before a.0.0 n (laid (flat_map wish_fields b.0))) (sym s.counted)) in
     let read : Operation = Add (record a.0.0 { wishes = b.0 }) in
-    subst (λ (o : Operation). IsLaid o (2 ∷ rest)) (some_is read op b.2)
-    (grind (arith, few))
+    subst (λ (o : Operation). IsLaid o (2 ∷ rest)) (some_is read op b.2) (grind (arith, few))
 
 pub modify_laid : (rest : List ℕ) (op : Operation) → IsOctets rest → modify_in rest ≡ Some op → IsLaid op (3 ∷ rest)
 unfolding modify_in
@@ -33,8 +32,7 @@ modify_laid rest op h e =
     let parts : rest ≡ modify_before a.0.0 (length b.0) (laid (flat_map wish_fields b.0)) =
     t.parts ∙ (ap (modify_before a.0.0 a.0.1) s.encoded ∙ ap (λ (n : ℕ). modify_before a.0.0 n (laid (flat_map wish_fields b.0))) (sym s.counted)) in
     let read : Operation = Modify (record a.0.0 { wishes = b.0 }) in
-    subst (λ (o : Operation). IsLaid o (3 ∷ rest)) (some_is read op b.2)
-    (grind (arith, few))
+    subst (λ (o : Operation). IsLaid o (3 ∷ rest)) (some_is read op b.2) (grind (arith, few))
 
 whole_some : {A B : Type 0} (read : Option (A × List B)) (x : A) → whole read ≡ Some x → read ≡ Some (x, [])
 whole_some read x e = grind arith

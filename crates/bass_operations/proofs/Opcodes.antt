@@ -1,6 +1,5 @@
 -- Operations whose fields have no reserved value and no wish.
-use Rattle.bass_operations.proofs.Prelude.{◌≡◌, ℕ, ◌-◌, ◌≤◌, true, eqb, List, [], ◌∷◌, length, get_or, take, drop, Option, Some, None, Result, Ok, refl, sym, ap, subst, ◌∙◌, arith, eqb-true, take_all, nil_from_length, octet_in, octets_in, ◌>>=◌, whole, bind_some, some_is, OpFault, Length, Operation, ScanStopped, ScanStarted, Code, Remove, op_of, judged, answered, fault_of, told, Answers}
-use Rattle.std.specs.Option.{ok_or}
+use Rattle.bass_operations.proofs.Prelude.{◌≡◌, ℕ, ◌-◌, ◌≤◌, true, eqb, List, [], ◌∷◌, length, get_or, take, drop, Option, Some, None, Result, Ok, refl, sym, ap, subst, ◌∙◌, arith, eqb-true, take_all, nil_from_length, octet_in, octets_in, ◌>>=◌, whole, bind_some, some_is, OpFault, Length, Operation, ScanStopped, ScanStarted, Code, Remove, op_of, judged, answered, fault_of, told, Answers, ok_or}
 use Rattle.bass_operations.specs.Reading.{op_in, code_in, remove_in}
 use Rattle.bass_operations.specs.Twice.{twice_from}
 

@@ -2,9 +2,9 @@
 pub use Rattle.std.proofs.Common.{◌≡◌, ℕ, zero, suc, ◌<◌, ◌≤◌, Bool, true, false, cond, ltb, List, [], ◌∷◌, ◌++◌, length, Option, Some, None, Result, Ok, Err, refl, sym, ap, subst, ◌∙◌, arith, ◌+◌, ◌-◌, eqb, map, is_some, ◌^◌, take, append_assoc, get_or, drop, inl, inr}
 pub use Rattle.std.proofs.lemmas.Bool.{le-ltb, lt-ltb, ltb-false, ltb-true, eqb-true, cases_lt}
 pub use Rattle.std.proofs.lemmas.List.{append-nil, length-append, take_all, nil_from_length}
-pub use Rattle.std.proofs.lemmas.Result.{err_from_is_err_and}
+pub use Rattle.std.proofs.lemmas.Result.{err_from_is_err_and, on_ok_weaker}
 pub use Rattle.std.specs.List.{flat_map, AllByRecursion}
-pub use Rattle.std.specs.Prelude.{IsOk, IfOk, IfErr}
+pub use Rattle.std.specs.Prelude.{IsOk, IfOk, IfErr, if◌then◌else◌, ◌*◌}
 pub use Rattle.bass_operations.specs.Layout.{fields, wishes_of, IsLaid, OpIs, FitsWidths, WishFits, encoding, MetadataFits, group_of}
 pub use Rattle.bass_operations.specs.Reading.{op_of, judged, answered, fault_of, first_fault, wish_of, told, alone, WantsFor, add_reserved}
 pub use Rattle.bass_operations.specs.Twice.{twice_of, times_named, has_bit, IsLowestTwice, NoneTwice}
@@ -22,3 +22,5 @@ pub use Rattle.bcast_base.specs.Reading.{octet_in, octets_in, number_in, place_i
 pub use Rattle.bcast_base.specs.Steps.{◌>>=◌, whole}
 pub use Rattle.bcast_base.specs.Subgroups.{Subgroup, subgroup_fields, subgroup_in, reserved_in, Fits, subgroup}
 pub use Rattle.bcast_base.specs.Tries.{Answers, Finds}
+pub use Rattle.std.specs.Option.{option_or, ok_or}
+pub use Rattle.bcast_base.specs.Numbers.{sum_from}

@@ -1,7 +1,5 @@
 -- What an Add Source and a Modify Source are judged as, by the steps of reading.
-use Rattle.bass_operations.proofs.Prelude.{◌≡◌, ℕ, ◌+◌, ◌<◌, ◌≤◌, Bool, cond, ltb, List, [], ◌∷◌, length, Option, Some, None, is_some, Result, Ok, Err, refl, sym, ap, subst, ◌∙◌, arith, IfOk, flat_map, reserved_from, place_in, IsOctets, subgroup_fields, reserved_in, IsOctets-rest, number-length, reserved_found, OpFault, Length, AddSource, ModifySource, Operation, Add, Modify, Wish, fields, wishes_of, judged, answered, first_fault, add_reserved, told, Finds, twice_of, WantsFor, Memory}
-use Rattle.std.specs.Option.{option_or}
-use Rattle.std.specs.Prelude.{if◌then◌else◌}
+use Rattle.bass_operations.proofs.Prelude.{◌≡◌, ℕ, ◌+◌, ◌<◌, ◌≤◌, Bool, cond, ltb, List, [], ◌∷◌, length, Option, Some, None, is_some, Result, Ok, Err, refl, sym, ap, subst, ◌∙◌, arith, IfOk, flat_map, reserved_from, place_in, IsOctets, subgroup_fields, reserved_in, IsOctets-rest, number-length, reserved_found, OpFault, Length, AddSource, ModifySource, Operation, Add, Modify, Wish, fields, wishes_of, judged, answered, first_fault, add_reserved, told, Finds, twice_of, WantsFor, Memory, option_or, if◌then◌else◌}
 use Rattle.bass_operations.specs.Reading.{wishes_in, add_head_in, modify_head_in, add_in, modify_in}
 use Rattle.bass_operations.specs.Scanning.{twice_in}
 use Rattle.bass_operations.specs.Twice.{twice_from}

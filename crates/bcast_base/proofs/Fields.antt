@@ -1,8 +1,6 @@
 -- A field that is read is the field that was written, and what was written is read again.
-use Rattle.bcast_base.proofs.Prelude.{◌≡◌, ℕ, zero, suc, ◌+◌, ◌-◌, ◌*◌, ◌/◌, ◌%◌, ◌^◌, ◌<◌, ◌≤◌, Bool, false, cond, ltb, List, [], ◌∷◌, ◌++◌, length, take, drop, Some, None, refl, sym, ap, subst, ◌∙◌, append_assoc, arith, take_at, drop_at, take-append-drop, length-append, length-take, get_or, get_or-drop, get_or-take, get_or_past, pow-add, sum_from, octet_in, octets_in, number_in, counted_in, Takes, IsOctets, octet, counted}
-use Rattle.std.proofs.lemmas.Bool.{cases_lt, ltb-false, le-ltb}
+use Rattle.bcast_base.proofs.Prelude.{◌≡◌, ℕ, zero, suc, ◌+◌, ◌-◌, ◌*◌, ◌/◌, ◌%◌, ◌^◌, ◌<◌, ◌≤◌, Bool, false, cond, ltb, List, [], ◌∷◌, ◌++◌, length, take, drop, Some, None, refl, sym, ap, subst, ◌∙◌, append_assoc, arith, take_at, drop_at, take-append-drop, length-append, length-take, get_or, get_or-drop, get_or-take, get_or_past, pow-add, sum_from, octet_in, octets_in, number_in, counted_in, Takes, IsOctets, octet, counted, cases_lt, ltb-false, le-ltb, w32, w64, to_le_bytes}
 use Rattle.std.proofs.lemmas.Option.{some_pair_parts}
-use Rattle.std.specs.Int.{w32, w64, to_le_bytes}
 use Rattle.bcast_base.proofs.Places.{sum_from-cons}
 use Rattle.bcast_base.specs.Encoding.{number}
 

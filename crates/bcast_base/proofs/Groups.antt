@@ -87,8 +87,7 @@ subgroup-length group = omega (arith, length-append (number 4 group.bits) (count
 -- ---- the first reserved bit field
 
 pub unreserved_next : (whole : List ℕ) (count i : ℕ) (from : List ℕ) (group : Subgroup) (after : List ℕ) (total : Option ℕ) → i < count → subgroup_in from ≡ Some (group, after)
-    → is_reserved group.bits ≡ false
-    → reserved_in whole (count - i) from ≡ total → reserved_in whole (count - (i + 1)) after ≡ total
+    → is_reserved group.bits ≡ false → reserved_in whole (count - i) from ≡ total → reserved_in whole (count - (i + 1)) after ≡ total
 unfolding reserved_in
 unreserved_next whole count i from group after total lt h r so_far =
     let k : count - i ≡ suc (count - (i + 1)) = omega arith in
@@ -96,8 +95,7 @@ unreserved_next whole count i from group after total lt h r so_far =
     sym one ∙ so_far
 
 pub reserved_here : (whole : List ℕ) (count i : ℕ) (from : List ℕ) (group : Subgroup) (after : List ℕ) (total : Option ℕ) → i < count → subgroup_in from ≡ Some (group, after)
-    → is_reserved group.bits ≡ true
-    → reserved_in whole (count - i) from ≡ total → Some (place_in whole from) ≡ total
+    → is_reserved group.bits ≡ true → reserved_in whole (count - i) from ≡ total → Some (place_in whole from) ≡ total
 unfolding reserved_in
 reserved_here whole count i from group after total lt h r so_far = grind (arith, place_in)
 
@@ -117,8 +115,7 @@ reserved_suc : (whole : List ℕ) (count : ℕ) (from : List ℕ) (group : Subgr
 unfolding reserved_in
 reserved_suc whole count from group after e = rw e refl
 
-reserved_cons : (place : ℕ) (group : Subgroup) (groups : List Subgroup)
-    → reserved_from place (flat_map subgroup_fields (group ∷ groups))
+reserved_cons : (place : ℕ) (group : Subgroup) (groups : List Subgroup) → reserved_from place (flat_map subgroup_fields (group ∷ groups))
     ≡ cond (is_reserved group.bits) (Some place) (reserved_from (place + 4 + 1 + length group.metadata) (flat_map subgroup_fields groups))
 reserved_cons place group groups = rw (number-length 4 group.bits) refl
 

@@ -8,3 +8,5 @@ pub use Rattle.bcast_base.specs.Numbers.{sum_from}
 pub use Rattle.bcast_base.specs.Reading.{number_in, counted_in, Takes, place_in, octet_in, octets_in}
 pub use Rattle.bcast_base.specs.Steps.{◌>>=◌}
 pub use Rattle.bcast_base.specs.Subgroups.{Subgroup, Fits, subgroup, subgroup_fields, is_reserved}
+pub use Rattle.std.specs.Int.{w32, bit_at, w64, to_le_bytes}
+pub use Rattle.std.proofs.lemmas.Bool.{eqb-true, eq-eqb, cases_lt, ltb-false, le-ltb}

@@ -1,8 +1,6 @@
 -- One bit of a number, as the code tests, sets and clears it.
-use Rattle.bcast_base.proofs.Prelude.{◌≡◌, ◌≢◌, ◌≤◌, ◌<◌, ◌↔◌, ℕ, ◌-◌, ◌*◌, ◌/◌, ◌%◌, ◌^◌, IsTrue, nat_eq, bit_and, bit_or, sym, ◌∙◌, inl, inr, arith, one_shl, or_lt, and_le_l, pow_below}
-use Rattle.std.specs.Int.{w32, bit_at}
+use Rattle.bcast_base.proofs.Prelude.{◌≡◌, ◌≢◌, ◌≤◌, ◌<◌, ◌↔◌, ℕ, ◌-◌, ◌*◌, ◌/◌, ◌%◌, ◌^◌, IsTrue, nat_eq, bit_and, bit_or, sym, ◌∙◌, inl, inr, arith, one_shl, or_lt, and_le_l, pow_below, w32, bit_at, eqb-true, eq-eqb}
 use Rattle.std.proofs.lemmas.Nat.Bits.{shr_and_one, bit_at_set_same, bit_at_set_other, bit_at_clear_same, bit_at_clear_other, bit_at_above}
-use Rattle.std.proofs.lemmas.Bool.{eqb-true, eq-eqb}
 use Rattle.std.proofs.lemmas.Bool.Decides.{leb_tells}
 use Rattle.bcast_base.specs.Bis.{Has}
 

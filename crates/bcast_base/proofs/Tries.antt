@@ -1,6 +1,5 @@
 -- Steps of reading that were made, and steps that failed.
-use Rattle.std.proofs.Common.{arith}
-use Rattle.bcast_base.proofs.Prelude.{◌≡◌, ◌⊎◌, Option, Some, None, Result, Ok, Err, refl, ap, inl, inr}
+use Rattle.bcast_base.proofs.Prelude.{◌≡◌, ◌⊎◌, Option, Some, None, Result, Ok, Err, refl, ap, inl, inr, arith}
 use Rattle.bcast_base.specs.Tries.{◌>>=◌, needed}
 
 pub ok_is : {A E : Type 0} (x y : A) → (let r : A → Result A E = λ z. Ok z in r x ≡ r y) → x ≡ y

@@ -1,6 +1,5 @@
 -- A text that is cut at the ends of its lines.
-use Rattle.bcast_io.proofs.Prelude.{◌≡◌, ◌≢◌, ℕ, ◌+◌, ◌<◌, ◌≤◌, Bool, cond, List, [], ◌∷◌, ◌++◌, length, take, drop, map, refl, sym, ap, ◌∙◌, arith, append_assoc, append-nil, length-append, length-drop, length-take-le, take-append-drop, inl, inr, lt-leb, le-leb, cases_lt, cases_eq, take_all, All-nil, All-cons, All-head, All-tail, AreLines, TextLine, NoNewline, last_line, line_behind, line_of, lines_of, newline, past, text_limit, with_end}
-use Rattle.std.specs.List.{concat}
+use Rattle.bcast_io.proofs.Prelude.{◌≡◌, ◌≢◌, ℕ, ◌+◌, ◌<◌, ◌≤◌, Bool, cond, List, [], ◌∷◌, ◌++◌, length, take, drop, map, refl, sym, ap, ◌∙◌, arith, append_assoc, append-nil, length-append, length-drop, length-take-le, take-append-drop, inl, inr, lt-leb, le-leb, cases_lt, cases_eq, take_all, All-nil, All-cons, All-head, All-tail, AreLines, TextLine, NoNewline, last_line, line_behind, line_of, lines_of, newline, past, text_limit, with_end, concat}
 use Rattle.std.specs.Prelude.{All}
 use Rattle.bcast_io.specs.TextLines.{lines_from}
 use Rattle.bcast_io.proofs.LineLaws.{lines-newline, lines-past_all, lines-run}
@@ -65,8 +64,7 @@ lines-whole e t (line ∷ lines) more apart fits =
     let behind : t + length line + 1 + length others ≡ t + length (with_end line ++ others) = omega (arith, long) in
     ap (lines_from e t []) (append_assoc (with_end line) others more ∙ append_assoc line (newline ∷ []) (others ++ more))
     ∙ lines-run e t [] line (newline ∷ (others ++ more)) (All-head NoNewline line lines apart) (omega (arith, long))
-    ∙ lines-newline e (t + length line) line (others ++ more) (omega (arith, long))
-    ∙ ap (λ ls. line_of line ∷ ls) (
+    ∙ lines-newline e (t + length line) line (others ++ more) (omega (arith, long)) ∙ ap (λ ls. line_of line ∷ ls) (
     lines-whole e (t + length line + 1) lines more (All-tail NoNewline line lines apart) (omega (arith, long))
     ∙ ap (λ k. map line_of lines ++ lines_from e k [] more) behind
     )

@@ -1,6 +1,5 @@
 -- Parts of buffers.
-use Rattle.bcast_io.proofs.Prelude.{◌≡◌, ℕ, ◌+◌, ◌-◌, ◌≤◌, min, List, ◌++◌, length, take, drop, sym, ap, ◌∙◌, arith, drop-take, drop-drop, take_min}
-use Rattle.std.proofs.Math.Seq.{take-append-add}
+use Rattle.bcast_io.proofs.Prelude.{◌≡◌, ℕ, ◌+◌, ◌-◌, ◌≤◌, min, List, ◌++◌, length, take, drop, sym, ap, ◌∙◌, arith, drop-take, drop-drop, take_min, take-append-add}
 
 -- a part without its first n elements
 pub part-drop : (xs : List ℕ) (i n j : ℕ) → i + n ≤ j → take (j - (i + n)) (drop (i + n) xs) ≡ drop n (take (j - i) (drop i xs))

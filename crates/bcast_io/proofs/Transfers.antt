@@ -1,6 +1,5 @@
 -- One call after another, on what a source has left and what a sink took.
-use Rattle.bcast_io.proofs.Prelude.{ℕ, ◌+◌, ◌<◌, List, [], ◌++◌, Option, length, take, drop, refl, sym, subst, append_assoc, append-nil, take-append-drop, length-drop, arith, Appends, Consumes, Keeps}
-use Rattle.std.proofs.Math.Seq.{take-add}
+use Rattle.bcast_io.proofs.Prelude.{ℕ, ◌+◌, ◌<◌, List, [], ◌++◌, Option, length, take, drop, refl, sym, subst, append_assoc, append-nil, take-append-drop, length-drop, arith, Appends, Consumes, Keeps, take-add}
 use Rattle.bcast_io.specs.Writing.{AppendsPrefix, AppendsShort}
 
 -- nothing was taken, and nothing written

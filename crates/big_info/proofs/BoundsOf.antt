@@ -1,6 +1,5 @@
 -- From "no fault holds" to the bounds of the numbers.
-use Rattle.big_info.proofs.Prelude.{◌≡◌, ℕ, ◌*◌, ◌/◌, ◌%◌, arith, nat_tests, BigInfo, RangeIso, RangeSdu, RangePdu, Bn, NseNotMultiple, Irc, PhyNotSupported, FramedPduSmall, UnframedMultiple, UnframedBn, Horizon, SubInterval, SyncDelay, Encrypted, NoFault}
-use Rattle.std.proofs.Math.Nat.{mod-add-div'}
+use Rattle.big_info.proofs.Prelude.{◌≡◌, ℕ, ◌*◌, ◌/◌, ◌%◌, arith, nat_tests, BigInfo, RangeIso, RangeSdu, RangePdu, Bn, NseNotMultiple, Irc, PhyNotSupported, FramedPduSmall, UnframedMultiple, UnframedBn, Horizon, SubInterval, SyncDelay, Encrypted, NoFault, mod-add-div'}
 use Rattle.big_info.specs.Bounds.{Bounds}
 use Rattle.big_info.specs.Time.{iso_us_of}
 

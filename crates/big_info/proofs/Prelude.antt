@@ -14,3 +14,4 @@ pub use Rattle.big_info.specs.declared.fault.GroupFault.TheVariants.{RangeIso, R
 pub use Rattle.big_info.specs.declared.info.BigInfo.{BigInfo}
 pub use Rattle.big_info.specs.declared.info.Cipher.{Cipher}
 pub use borrow.Rule.Slice.PartMut.{put_mid}
+pub use Rattle.std.proofs.Math.Nat.{pow-suc, mod-add-div'}

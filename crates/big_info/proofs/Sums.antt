@@ -1,7 +1,6 @@
 -- The number that octets encode, from the words that they are joined of.
-use Rattle.big_info.proofs.Prelude.{◌≡◌, ◌≤◌, ◌<◌, ℕ, zero, suc, ◌+◌, ◌*◌, ◌^◌, List, [], ◌∷◌, ◌++◌, length, take, drop, get_or, ◌∙◌, ap, arith, zero-add, length-take-le, length-take, length-drop, subst, take_more, get_or-take, get_or-drop, sum_from, sum_from-append, sum_from-suc, sum_from-cons, small_read}
+use Rattle.big_info.proofs.Prelude.{◌≡◌, ◌≤◌, ◌<◌, ℕ, zero, suc, ◌+◌, ◌*◌, ◌^◌, List, [], ◌∷◌, ◌++◌, length, take, drop, get_or, ◌∙◌, ap, arith, zero-add, length-take-le, length-take, length-drop, subst, take_more, get_or-take, get_or-drop, sum_from, sum_from-append, sum_from-suc, sum_from-cons, small_read, pow-suc}
 use Rattle.std.proofs.Math.Seq.{take-add}
-use Rattle.std.proofs.Math.Nat.{pow-suc}
 
 -- octets from place i on count 256 ^ i times as much
 pub sum_from-places : (i : ℕ) (octets : List ℕ) → sum_from i octets ≡ 256 ^ i * sum_from 0 octets

@@ -137,11 +137,9 @@ chooses_next all streams rest others room which bits bits_now candidates first l
       bits_lead = (λ i. put i ++ map (set_with 0) (first_of_all (left i) others))
           ∙ append_assoc bits (last.bits ∷ []) (map (set_with 0) (first_of_all (room - length candidates) others))
           ∙ (λ i. bits ++ one i ∷ map (set_with 0) (first_of_all (room - length candidates) others))
-          ∙ ap (λ lists. bits ++ map (set_with 0) (first_of_all room lists)) (sym parts)
-          ∙ h.bits_lead;
+          ∙ ap (λ lists. bits ++ map (set_with 0) (first_of_all room lists)) (sym parts) ∙ h.bits_lead;
       which_leads = (λ i. sets_with (sets i) (first_of_all (left i) others))
-          ∙ ap (λ lists. sets_with which (first_of_all room lists)) (sym parts)
-          ∙ h.which_leads;
+          ∙ ap (λ lists. sets_with which (first_of_all room lists)) (sym parts) ∙ h.which_leads;
     }
 
 pub chooses_last : (all : List (List ℕ)) (streams : ℕ) (rest : List (List ℕ)) (room which : ℕ) (bits : List ℕ) → rest ≡ [] → Chooses all streams rest room which bits

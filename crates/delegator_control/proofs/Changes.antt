@@ -83,8 +83,7 @@ note_done n slot place snapshot waiting moves held before now is within there at
     let entry : held ≡ entry_at snapshot.slots slot =
     read ∙ get_or_default snapshot.slots place held None (subst (λ k. k < length snapshot.slots) (sym at) there) ∙ ap (λ k. get_or snapshot.slots k None) at in
     let entry_now : held ≡ entry_at after.slots slot = entry ∙ ap (λ slots. entry_at slots slot) (sym (slots_stay (place_by snapshot.place moves) snapshot)) in
-    ap (λ more. waiting ++ more)
-    (grind (arith, change, value, option_map, received, moved_one))
+    ap (λ more. waiting ++ more) (grind (arith, change, value, option_map, received, moved_one))
 
 -- ---- a place stays within the slots
 

@@ -55,8 +55,7 @@ pub record IsNear (slot : ℕ) (snapshot : Snapshot) : Type 0 where
   pub near : is_elsewhere snapshot.place slot ≡ false
 
 near_at : (setup : Setup) (snapshot : Snapshot) (train : Train) (other slot : ℕ) (b : Bool) → is_elsewhere snapshot.place other ≡ b → other < length snapshot.slots
-    → slot_of_outcome (if b then ignored answers.OtherTrain
-    else (if is_on_group snapshot.place other then ignored answers.AlreadyOnGroup
+    → slot_of_outcome (if b then ignored answers.OtherTrain else (if is_on_group snapshot.place other then ignored answers.AlreadyOnGroup
     else by_base setup snapshot.capability (wishes_at (entry_at snapshot.slots other)) other train (base_in train.adv))) ≡ Some slot
     → IsNear slot snapshot
 near_at setup snapshot train other slot b away within is = grind (arith, of_base, wishes_at, entry_at, base_in, is_on_group)

@@ -89,8 +89,7 @@ pub filled_done : (m : Machine) (slot : ℕ) (entry : Option Entry) (moves : Mov
     → record m {
       snapshot = placed (place_by m.snapshot.place moves) None None (record m.snapshot { slots = set m.snapshot.slots slot entry });
       waiting = m.waiting ++ change slot (value_at m.snapshot slot) value_now;
-    }
-    ≡ moved done m
+    } ≡ moved done m
 filled_done m slot entry moves done value_now within there on does is =
     grind (arith, placed, place_by, set, changes, change, value_at, filled_one, filled_value)
 
@@ -103,8 +102,7 @@ slot_done : (m now : Machine) (slot : ℕ) (entry : Option Entry) (slots : List 
     → value_now ≡ value (option_map (received (status_of m.snapshot.place m.snapshot.encrypted m.snapshot.taken slot)) entry)
     → now ≡ moved done m
 slot_done m now slot entry slots waiting done value_now within there is filled waits does will =
-    is
-    ∙ (λ i. record m { snapshot = record m.snapshot { slots = filled i }; waiting = waits i })
+    is ∙ (λ i. record m { snapshot = record m.snapshot { slots = filled i }; waiting = waits i })
     ∙ filled_done m slot entry Stay done value_now within there (λ place e. absurd cc) does will
 
 pub add_done : (m now : Machine) (add : AddSource) (slot : ℕ) (slots : List (Option Entry)) (waiting : List Notice) → empty_slot m.snapshot.slots ≡ Some slot
@@ -135,8 +133,7 @@ stays_on : (b : Bool) (place : Option snapshots.Place) (now : snapshots.Place) �
 stays_on b place now e = grind arith
 
 pub modify_value : (snapshot : Snapshot) (slot : ℕ) (entry : Entry) (wanted : Wanted) (moves : Move) → slot < length snapshot.slots → entry_at snapshot.slots slot ≡ Some entry
-    → place_by snapshot.place moves ≡ place_given snapshot (modified slot wanted)
-    → value_at (after (modified slot wanted) snapshot) slot
+    → place_by snapshot.place moves ≡ place_given snapshot (modified slot wanted) → value_at (after (modified slot wanted) snapshot) slot
     ≡ encoding (received (status_of (placed (place_by snapshot.place moves) None None snapshot).place (placed (place_by snapshot.place moves) None None snapshot).encrypted
     (placed (place_by snapshot.place moves) None None snapshot).taken slot) (record entry { wanted = wanted }))
 modify_value snapshot slot entry wanted moves there held same = grind (arith, value_at, modified_is, filled_value, place_by)
@@ -148,8 +145,7 @@ pub modify_done : (m now : Machine) (modify : ModifySource) (slot : ℕ) (entry 
     → slots ≡ set m.snapshot.slots slot (Some (record entry { wanted = wanted_by modify }))
     → waiting ≡ m.waiting ++ change slot (value_at m.snapshot slot) (encoding (received (status_of (placed (place_by m.snapshot.place moves) None None m.snapshot).place
     (placed (place_by m.snapshot.place moves) None None m.snapshot).encrypted (placed (place_by m.snapshot.place moves) None None m.snapshot).taken slot)
-    (record entry { wanted = wanted_by modify })))
-    → now ≡ moved (operated m.snapshot.slots (Modify modify)) m
+    (record entry { wanted = wanted_by modify }))) → now ≡ moved (operated m.snapshot.slots (Modify modify)) m
 modify_done m now modify slot entry moves slots waiting found within there held same is filled waits =
     is
     ∙ (λ i. record m { snapshot = placed (place_by m.snapshot.place moves) None None (record m.snapshot { slots = filled i }); waiting = waits i })

@@ -1,8 +1,7 @@
 -- Where bits of streams stand.
-use Rattle.delegator_history.proofs.Prelude.{◌≡◌, ◌<◌, ◌+◌, ℕ, zero, suc, Bool, false, List, [], ◌∷◌, length, Option, Some, None, option_map, get_or, refl, sym, ap, subst, arith, ◌==◌, ◌&&◌, if◌then◌else◌, Any, eqb-true, Wish, Entry, Place, idle, on_train, on_group}
+use Rattle.delegator_history.proofs.Prelude.{◌≡◌, ◌<◌, ◌+◌, ℕ, zero, suc, Bool, false, List, [], ◌∷◌, length, Option, Some, None, option_map, get_or, refl, sym, ap, subst, arith, ◌==◌, ◌&&◌, if◌then◌else◌, Any, eqb-true, Wish, Entry, Place, idle, on_train, on_group, status_of, groups_from, received, HasBit}
 use Rattle.receive_state.specs.declared.state.GroupState.{GroupState}
 use Rattle.receive_state.specs.declared.state.ReceiveState.{ReceiveState}
-use Rattle.delegator_history.specs.Values.{status_of, groups_from, received, HasBit}
 
 -- no bit is set where none is taken
 none_set : (place : ℕ) (wishes : List Wish) (k : ℕ) (group : GroupState) → k < length (groups_from place [] wishes)

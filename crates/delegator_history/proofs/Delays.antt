@@ -1,6 +1,5 @@
 -- Whatever is read of octets that encode a BASE, it has the presentation delay of that BASE.
-use Rattle.std.proofs.Common.{arith}
-use Rattle.delegator_history.proofs.Prelude.{◌≡◌, ℕ, ◌∷◌, Bool, cond, ltb, List, [], length, Some, Result, Ok, Err, sym, ap, ◌∙◌, subst, flat_map, some_pair_parts, bind_ok, needed_ok, number_again, ok_is, BaseFault, Endpoint, BaseIs, endpoint, subgroup}
+use Rattle.delegator_history.proofs.Prelude.{◌≡◌, ℕ, ◌∷◌, Bool, cond, ltb, List, [], length, Some, Result, Ok, Err, sym, ap, ◌∙◌, subst, flat_map, some_pair_parts, bind_ok, needed_ok, number_again, ok_is, BaseFault, Endpoint, BaseIs, endpoint, subgroup, arith}
 use Rattle.bcast_base.specs.Reading.{number_in, place_in}
 use Rattle.bcast_base.specs.Tries.{◌>>=◌}
 use Rattle.base_grammar.specs.declared.fault.BaseFault.TheVariants.{Short, TooLong}

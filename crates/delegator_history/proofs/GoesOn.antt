@@ -46,8 +46,7 @@ slots_go_on n steps before (added slot entry) =
     map_changes_first (entry_in steps) (entry_in (record { before = before; done = added slot entry } ∷ steps)) n slot (Some entry)
     (λ i other. same_entry steps before (added slot entry) i
     (if_not (slot == i) (Some (Some entry.source)) None (not_eq slot i (λ is. other (sym is))))
-    (if_not (slot == i) (Some entry.wanted) None (not_eq slot i (λ is. other (sym is)))))
-    (λ below. added_here steps before slot entry)
+    (if_not (slot == i) (Some entry.wanted) None (not_eq slot i (λ is. other (sym is))))) (λ below. added_here steps before slot entry)
 slots_go_on n steps before (modified slot wanted) =
     map_changes_first (entry_in steps) (entry_in (record { before = before; done = modified slot wanted } ∷ steps)) n slot
     (wanting wanted (entry_at (map (entry_in steps) (range_with_len 0 n)) slot))

@@ -1,6 +1,5 @@
 -- What looking back finds.
-use Rattle.std.proofs.Common.{arith}
-use Rattle.delegator_history.proofs.Prelude.{◌≡◌, List, [], ◌∷◌, ◌++◌, Option, Some, None, refl, ap, ◌∙◌, option_or, AllByRecursion, last_given, IsLastGiven}
+use Rattle.delegator_history.proofs.Prelude.{◌≡◌, List, [], ◌∷◌, ◌++◌, Option, Some, None, refl, ap, ◌∙◌, option_or, AllByRecursion, last_given, IsLastGiven, arith}
 
 first_or : {S A : Type 0} (gives : S → Option A) (step : S) (earlier : List S) (given : A) (o : Option A) → gives step ≡ o
     → (last_given gives earlier ≡ Some given → IsLastGiven gives earlier given)

@@ -13,8 +13,7 @@ map_changes f g start zero at new same here = refl
 map_changes f g start (suc n) zero new same here = grind (arith, map, range_with_len, map_agrees)
 map_changes f g start (suc n) (suc at) new same here =
     let next : start + 1 + at ≡ start + suc at = omega arith in
-    ap (λ x. x ∷ map g (range_with_len (start + 1) n)) (same start (λ is. omega arith))
-    ∙ ap (λ xs. f start ∷ xs)
+    ap (λ x. x ∷ map g (range_with_len (start + 1) n)) (same start (λ is. omega arith)) ∙ ap (λ xs. f start ∷ xs)
     (map_changes f g (start + 1) n at new (λ i other. same i (λ is. other (omega arith))) (λ below. subst (λ i. g i ≡ new) (sym next) (here (omega arith))))
 
 -- the same over the numbers from 0 on

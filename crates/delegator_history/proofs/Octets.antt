@@ -84,7 +84,6 @@ train_only broadcast_id base info event anchor train is fits =
     let listed : IsOctets ((1 + length acad) ∷ 0x2c ∷ acad) = subst IsOctets is.acad fits in
     let own : IsOctets acad = IsOctets-rest 0x2c acad (IsOctets-rest (1 + length acad) (0x2c ∷ acad) listed) in
     let info_is : acad ≡ info_octets (announced info event) = info_only (announced info event) acad own is.info_is in
-    ap (λ n. made n train.ext train.adv train.acad) time
-    ∙ ap (λ os. made (anchor - lead) os train.adv train.acad) is.ext
+    ap (λ n. made n train.ext train.adv train.acad) time ∙ ap (λ os. made (anchor - lead) os train.adv train.acad) is.ext
     ∙ ap (λ os. made (anchor - lead) (service broadcast_id) os train.acad) (is.adv ∙ ap base_list is.base_is.encoded)
     ∙ ap (λ os. made (anchor - lead) (service broadcast_id) (base_list (encoding base)) os) (is.acad ∙ ap info_list info_is)

@@ -1,6 +1,5 @@
 -- The place looked back for, and what goes with it, as one more step is answered.
-use Rattle.std.proofs.Common.{arith}
-use Rattle.delegator_history.proofs.Prelude.{ℕ, ◌≡◌, Bool, true, false, List, [], ◌∷◌, Option, Some, None, refl, sym, ap, ◌∙◌, ◌==◌, ◌&&◌, not, unwrap_or, if◌then◌else◌, option_or, eqb-true, eq-eqb, last_given, Place, Snapshot, idle, on_train, on_group, slot_of, is_slot, is_on, is_on_group, entry_at, Done, nothing, added, modified, removed, tuned, followed, joined, lost, left, recorded, located, opened, same_streams, wishes_at, place_left, place_given, place_after, encryption_given, encrypted_on, taken_given, taken_on, placed, Setup, Answered, Step, done_by, snapshot_in, place_in, encryption_by, encrypted_in, encrypted_where, taken_in}
+use Rattle.delegator_history.proofs.Prelude.{ℕ, ◌≡◌, Bool, true, false, List, [], ◌∷◌, Option, Some, None, refl, sym, ap, ◌∙◌, ◌==◌, ◌&&◌, not, unwrap_or, if◌then◌else◌, option_or, eqb-true, eq-eqb, last_given, Place, Snapshot, idle, on_train, on_group, slot_of, is_slot, is_on, is_on_group, entry_at, Done, nothing, added, modified, removed, tuned, followed, joined, lost, left, recorded, located, opened, same_streams, wishes_at, place_left, place_given, place_after, encryption_given, encrypted_on, taken_given, taken_on, placed, Setup, Answered, Step, done_by, snapshot_in, place_in, encryption_by, encrypted_in, encrypted_where, taken_in, arith}
 use Rattle.delegator_history.specs.States.{answered}
 
 -- ---- what is given with a place
@@ -74,8 +73,7 @@ kept : (steps : List Answered) (slot : ℕ) (before : Option ℕ) (b : Bool) →
 kept steps slot before b is off = grind (arith, encrypted_in, eqb-true)
 
 encryption_on : (n : ℕ) (steps : List Answered) (done : Done) (place : Place) (slot : Option ℕ) → slot_of place ≡ slot
-    → place_after (snapshot_in n steps) done ≡ place
-    → ((s : ℕ) → is_on (place_in steps) s ≡ false → encrypted_in steps s ≡ false)
+    → place_after (snapshot_in n steps) done ≡ place → ((s : ℕ) → is_on (place_in steps) s ≡ false → encrypted_in steps s ≡ false)
     → encrypted_where (record { before = snapshot_in n steps; done = done } ∷ steps) slot
     ≡ encrypted_on slot (place_in steps) (encryption_given done) (encrypted_where steps (slot_of (place_in steps)))
 encryption_on n steps done place slot is there off =
@@ -129,8 +127,7 @@ taken_there steps a (on_train slot) old some = refl
 taken_there steps a (on_group None) old some = refl
 taken_there steps a (on_group (Some slot)) old some =
     let t = some slot refl in
-    ap (λ o. unwrap_or (option_or o (last_given (λ step. taken_given step.done) steps)) []) t.1
-    ∙ ap (λ o. unwrap_or o old) (sym t.1)
+    ap (λ o. unwrap_or (option_or o (last_given (λ step. taken_given step.done) steps)) []) t.1 ∙ ap (λ o. unwrap_or o old) (sym t.1)
 
 pub taken_goes_on : (n : ℕ) (steps : List Answered) (done : Done) (given : Option Place) → place_given (snapshot_in n steps) done ≡ given → (snapshot : Snapshot)
     → snapshot.taken ≡ taken_in steps (place_in steps)

@@ -24,3 +24,4 @@ pub use Rattle.delegator_history.specs.Steps.{Done, nothing, added, modified, re
 pub use Rattle.delegator_history.specs.Trains.{Setup, are_none, set_with, sets_with, first_candidates, base_in, big_info_in, big_sync_in, candidates, is_candidate, TrainOutcome, heard, ignored, taken, outcome_by, by_base, by_big_info, by_broadcast_id, by_endpoint, by_group, by_info, by_slot, by_streams, is_elsewhere, is_wanted, big_sync_of, found_in, offset_of}
 pub use Rattle.pacs_records.specs.declared.capability.Capability.{Capability}
 pub use Rattle.sync_reference.specs.BigSync.{BigSync}
+pub use Rattle.delegator_history.specs.Values.{value_at, status_of, groups_from, received, HasBit}

@@ -1,9 +1,8 @@
 -- The notices that wait go on by what each step makes of them.
-use Rattle.delegator_history.proofs.Prelude.{ℕ, zero, suc, ◌≡◌, ◌≢◌, ◌+◌, ◌<◌, min, List, [], ◌∷◌, ◌++◌, length, drop, sym, ap, ◌∙◌, arith, drop-append-le, drop_min, Snapshot, Step, snapshot_of, Setup}
+use Rattle.delegator_history.proofs.Prelude.{ℕ, zero, suc, ◌≡◌, ◌≢◌, ◌+◌, ◌<◌, min, List, [], ◌∷◌, ◌++◌, length, drop, sym, ap, ◌∙◌, arith, drop-append-le, drop_min, Snapshot, Step, snapshot_of, Setup, value_at}
 use Rattle.std.proofs.Math.Nat.{min-le_right}
 use Rattle.std.proofs.lemmas.Slice.Eq.{bytes_eq-Decides}
 use Rattle.delegator_history.specs.Notices.{change, changes, is_told, waiting}
-use Rattle.delegator_history.specs.Values.{value_at}
 use Rattle.delegator_history.proofs.Lists.{flat_none, flat_one}
 
 drop_nil : {A : Type 0} (n : ℕ) → drop {A = A} n [] ≡ []

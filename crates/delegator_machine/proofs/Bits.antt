@@ -1,6 +1,5 @@
 -- A set bit of a stream stands only in the slot whose group the sink is on, whatever the sink has.
-use Rattle.delegator_machine.proofs.Prelude.{Snapshot, entry_at}
-use Rattle.delegator_history.proofs.Citable.{bits_on}
+use Rattle.delegator_machine.proofs.Prelude.{Snapshot, entry_at, bits_on}
 use Rattle.delegator_machine.specs.Bits.{BitsStand}
 
 pub bits_stand : (snapshot : Snapshot) → BitsStand snapshot

@@ -1,6 +1,5 @@
 -- Which steps synchronize a sink to a BIG.
-use Rattle.std.proofs.Common.{arith}
-use Rattle.delegator_machine.proofs.Prelude.{ℕ, ◌≡◌, Bool, true, false, List, Option, Some, None, Result, unwrap_or, refl, ◌∙◌, not, if◌then◌else◌, OpFault, Operation, op_of, Place, idle, on_train, on_group, Snapshot, entry_at, is_on, is_on_group, Step, record_added, locations_set, contexts_set, mtu_set, sync_to_group, written, train_heard, train_lost, control_heard, notified, done_by, Done, after, capability_after, encryption_given, place_given, placed, same_streams, slots_after, taken_given, wishes_at, TrainOutcome, Setup, outcome_by, done_by_outcome, big_sync_in, BigSync, has_group, big_sync_given}
+use Rattle.delegator_machine.proofs.Prelude.{ℕ, ◌≡◌, Bool, true, false, List, Option, Some, None, Result, unwrap_or, refl, ◌∙◌, not, if◌then◌else◌, OpFault, Operation, op_of, Place, idle, on_train, on_group, Snapshot, entry_at, is_on, is_on_group, Step, record_added, locations_set, contexts_set, mtu_set, sync_to_group, written, train_heard, train_lost, control_heard, notified, done_by, Done, after, capability_after, encryption_given, place_given, placed, same_streams, slots_after, taken_given, wishes_at, TrainOutcome, Setup, outcome_by, done_by_outcome, big_sync_in, BigSync, has_group, big_sync_given, arith}
 use Rattle.delegator_history.specs.declared.replies.Cause.{Cause}
 use Rattle.delegator_history.specs.declared.train_heard.ControlHeard.{ControlHeard}
 use Rattle.delegator_history.specs.Controls.{control_heard as answer_to, done_heard}

@@ -1,5 +1,5 @@
 -- What the proofs of this crate use of `std` and of the crates below it, by one import.
-pub use Rattle.std.proofs.Common.{ℕ, zero, suc, length, get_or, ◌≡◌, Bool, true, false, List, ◌∷◌, Option, Some, None, option_map, refl, sym, ◌∙◌, ap, subst, Result, Ok, Err, option_copied, [], unwrap_or, ◌<◌, inl, inr}
+pub use Rattle.std.proofs.Common.{ℕ, zero, suc, length, get_or, ◌≡◌, Bool, true, false, List, ◌∷◌, Option, Some, None, option_map, refl, sym, ◌∙◌, ap, subst, Result, Ok, Err, option_copied, [], unwrap_or, ◌<◌, inl, inr, arith}
 pub use Rattle.std.specs.Prelude.{not, is_some, if◌then◌else◌, ◌&&◌, IsSome, ◌==◌, IsOk}
 pub use Rattle.bass_operations.specs.Reading.{op_of}
 pub use Rattle.bass_operations.specs.declared.fault.OpFault.{OpFault}
@@ -18,3 +18,5 @@ pub use Rattle.delegator_machine.specs.State.Halves.{Halves, StandsFor}
 pub use Rattle.group_sink.specs.State.Sinks.{OnGroup}
 pub use Rattle.group_sink.specs.State.Steps.{fresh_on}
 pub use Rattle.sync_reference.specs.BigSync.{BigSync}
+pub use Rattle.delegator_history.proofs.Citable.{snapshot_goes_on, bits_on}
+pub use Rattle.group_sink.specs.Calls.{place, leave}

@@ -1,6 +1,5 @@
 -- A Scan Delegator that stands for its calls stands for them and one more.
-use Rattle.std.proofs.Common.{arith}
-use Rattle.delegator_machine.proofs.Prelude.{◌≡◌, Bool, List, ◌∷◌, Some, None, sym, ◌∙◌, ap, subst, Step, snapshot_of, Setup, BigSync, has_group, Machine, Call, control, steps_of, big_sync_given, by_numbers, with_leave, with_step, group_calls, Halves, StandsFor}
+use Rattle.delegator_machine.proofs.Prelude.{◌≡◌, Bool, List, ◌∷◌, Some, None, sym, ◌∙◌, ap, subst, Step, snapshot_of, Setup, BigSync, has_group, Machine, Call, control, steps_of, big_sync_given, by_numbers, with_leave, with_step, group_calls, Halves, StandsFor, arith}
 use Rattle.group_sink.specs.Calls as sinks
 use Rattle.group_sink.specs.State.Sinks.{StandsFor as SinkStands}
 use Rattle.delegator_control.specs.State.Machines.{StandsFor as ScanStands}
@@ -39,8 +38,7 @@ pub stands_settled : (setup : Setup) (step : Step) (calls : List Call) (old new 
     → StandsFor setup calls old → StandsFor setup (control step ∷ calls) new
 stands_settled setup step calls old new mid was none same steps is made sink stands =
     stands_stepped setup step calls old new none (ap (λ (m : Machine). m.setup) made ∙ same) (subst (ScanStands (step ∷ steps_of calls)) (sym made) steps)
-    (grind (arith, with_leave, has_group))
-    stands
+    (grind (arith, with_leave, has_group)) stands
 
 stays : (on : Bool) (past : List sinks.Call) → with_leave on on past ≡ past
 stays on past = grind arith

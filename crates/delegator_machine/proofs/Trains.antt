@@ -1,6 +1,5 @@
 -- A train that is heard synchronizes the sink to a BIG, or leaves it off one.
-use Rattle.std.proofs.Common.{arith}
-use Rattle.delegator_machine.proofs.Prelude.{ℕ, ◌≡◌, Bool, true, false, List, ◌∷◌, Option, Some, None, option_map, refl, sym, ◌∙◌, ap, not, is_some, if◌then◌else◌, Place, idle, on_train, on_group, Snapshot, entry_at, is_on_group, train_heard, snapshot_of, nothing, after, wishes_at, TrainOutcome, Setup, Train, ignored, base_in, outcome_by, by_base, by_broadcast_id, done_by_outcome, is_elsewhere, is_wanted, big_sync_in, BigSync, OnGroup, fresh_on, has_base, is_followed, has_group, Machine, moved, Call, control, steps_of, group_calls, by_numbers, Halves, StandsFor}
+use Rattle.delegator_machine.proofs.Prelude.{ℕ, ◌≡◌, Bool, true, false, List, ◌∷◌, Option, Some, None, option_map, refl, sym, ◌∙◌, ap, not, is_some, if◌then◌else◌, Place, idle, on_train, on_group, Snapshot, entry_at, is_on_group, train_heard, snapshot_of, nothing, after, wishes_at, TrainOutcome, Setup, Train, ignored, base_in, outcome_by, by_base, by_broadcast_id, done_by_outcome, is_elsewhere, is_wanted, big_sync_in, BigSync, OnGroup, fresh_on, has_base, is_followed, has_group, Machine, moved, Call, control, steps_of, group_calls, by_numbers, Halves, StandsFor, arith}
 use Rattle.base_grammar.specs.AdReading.{broadcast_id_of}
 use Rattle.delegator_history.specs.declared.train_heard.TrainHeard.{TrainHeard}
 use Rattle.group_sink.specs.Calls as sinks

@@ -1,11 +1,8 @@
 -- Both halves are on a group, or on none.
-use Rattle.std.proofs.Common.{arith}
-use Rattle.delegator_machine.proofs.Prelude.{◌≡◌, true, false, List, [], ◌∷◌, Option, Some, None, option_map, refl, sym, ◌∙◌, ap, is_some, if◌then◌else◌, Snapshot, Step, snapshot_of, after, Setup, BigSync, has_group, Call, control, hear, tick, steps_of, big_sync_given, last_big_sync, by_numbers, with_step, group_calls}
+use Rattle.delegator_machine.proofs.Prelude.{◌≡◌, true, false, List, [], ◌∷◌, Option, Some, None, option_map, refl, sym, ◌∙◌, ap, is_some, if◌then◌else◌, Snapshot, Step, snapshot_of, after, Setup, BigSync, has_group, Call, control, hear, tick, steps_of, big_sync_given, last_big_sync, by_numbers, with_step, group_calls, arith, snapshot_goes_on, place}
 use Rattle.std.specs.Option.{option_or}
 use Rattle.delegator_history.specs.States.{answered}
-use Rattle.delegator_history.proofs.Citable.{snapshot_goes_on}
 use Rattle.group_sink.specs.Calls as sinks
-use Rattle.group_sink.specs.Calls.{place}
 use Rattle.delegator_machine.proofs.Places.{comes_on, stays_off}
 
 -- ---- one step

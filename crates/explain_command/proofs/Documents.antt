@@ -1,5 +1,5 @@
 -- What is promised of the explanation of a document.
-use Rattle.explain_command.proofs.Prelude.{◌≡◌, ℕ, ◌+◌, true, List, Option, Some, Ok, Err, refl, ap, subst, inl, inr, Keeps, AppendsPrefix, AppendsShort, Account, DocumentIs, EndsSo, Told}
+use Rattle.explain_command.proofs.Prelude.{◌≡◌, ℕ, ◌+◌, true, List, Option, Some, Ok, Err, refl, ap, subst, inl, inr, Keeps, AppendsPrefix, AppendsShort, Account, DocumentIs, EndsSo, Told, refused_for, stands_for, cause_line, ending_is, failed_toml, ran_toml, refused_toml, wanting_toml, keeps_itself}
 use Rattle.bcast_base.specs.Counts.{Rose}
 use Rattle.bcast_io.specs.Documents.{ReadPrefix, document_limit}
 use Rattle.replay_lines.specs.declared.cause.Cause.{Cause}
@@ -7,12 +7,9 @@ use Rattle.replay_lines.specs.declared.ending.Ending.{Ending}
 use Rattle.replay_lines.specs.declared.ending.Ending.TheVariants as endings
 use Rattle.replay_lines.specs.FromToml.{DocumentLaws, TomlEnding}
 use Rattle.replay_lines.specs.Heard.{as_told}
-use Rattle.replay_lines.specs.Standing.{refused_for, stands_for, cause_line}
 use Rattle.replay_lines.specs.State.Runs.{Refuses, RefusesDocument, over_text}
 use Rattle.replay_lines.specs.World.{World}
-use Rattle.replay_lines.proofs.Citable.{ending_is, failed_toml, ran_toml, refused_toml, wanting_toml}
 use Rattle.explain_command.specs.ToldDocument.{LinesOf, RefusalTold, ToldDocument, as_told_of, stopped_for}
-use Rattle.explained_rows.proofs.Citable.{keeps_itself}
 
 -- the outside behind the run of a document
 abbrev pub behind : Option (List ℕ) → ℕ → Option (List ℕ) → ℕ → List Account → World

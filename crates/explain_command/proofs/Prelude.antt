@@ -8,3 +8,6 @@ pub use Rattle.explain_command.specs.Told.{told_world, EndsSo, Told}
 pub use Rattle.explain_command.specs.ToldIn.{ToldIn}
 pub use Rattle.replay_lines.specs.Documents.{DocumentIs}
 pub use Rattle.unit_outlets.specs.Account.{Account, fresh}
+pub use Rattle.replay_lines.specs.Standing.{refused_for, stands_for, cause_line, lines_over, standing_by}
+pub use Rattle.replay_lines.proofs.Citable.{ending_is, failed_toml, ran_toml, refused_toml, wanting_toml, document_told, prefix_read, read_at, whole_is}
+pub use Rattle.explained_rows.proofs.Citable.{keeps_itself, keeps_then, prefix_none}

@@ -274,8 +274,7 @@ row_written place after kept kept' count from row prefix within some taken is a 
 -- the same prefix leaves the rows that tell lines
 pub row_beside : (place after : Place) (kept kept' : Option (List ℕ)) (count : ℕ) (from row : List ℕ) → row ≡ take (length row) from
     → 1 ≤ length row → takes place (get_or from 0 0) ≡ true → IsRow row
-    → Appends kept kept' (take count row) → after ≡ place_after place (take count row)
-    → Keeps (lines_at place kept) (lines_at after kept')
+    → Appends kept kept' (take count row) → after ≡ place_after place (take count row) → Keeps (lines_at place kept) (lines_at after kept')
 row_beside place after kept kept' count from row prefix some taken is a at =
     let first : get_or row 0 0 ≡ get_or from 0 0 = ap (λ l. get_or l 0 0) prefix ∙ get_or-take (length row) from 0 0 (omega arith) in
     let tells : told place (take count row) ≡ take count row = told_prefix place count row (omega arith) (ap (takes place) first ∙ taken) is in
@@ -303,8 +302,7 @@ module _ (initial place : Place) (octets : List ℕ) (done : ℕ) (came : place 
       let same : lines_told initial (take done octets) ++ lines_told place (take count rest) ≡ lines_told initial (take (done + count) octets) =
       ap (λ p. lines_told initial (take done octets) ++ lines_told p (take count rest)) came
       ∙ sym (picked_append tells_line initial (take done octets) (take count rest))
-      ∙ ap (λ l. lines_told initial (take done octets ++ take count l)) is
-      ∙ ap (lines_told initial) (sym (take-add done count octets)) in
+      ∙ ap (λ l. lines_told initial (take done octets ++ take count l)) is ∙ ap (lines_told initial) (sym (take-add done count octets)) in
       subst (λ l. Appends (lines_at initial first) (lines_at now kept') l) same
       (Appends-then (lines_at initial first) (lines_at place kept) (lines_at now kept') (lines_told initial (take done octets))
       (lines_told place (take count rest)) so_far step)

@@ -41,8 +41,7 @@ written_more f xs ys zs i x new below step is made written = grind (arith, set, 
 pub handed_more : {X : Type 0} (f : X → X) (g : X → List Handed) (xs ys : List X) (i : ℕ) (x : X) (old between new now : List Handed)
     (before result after : Result (Unit {0}) TakerFault) → i < length xs → ys ≡ map f (take i xs) ++ drop i xs → x ≡ get_or ys i x
     → (u : Unit {0}) → before ≡ Ok u → HandsOver (flat_map g (take i xs)) old between before
-    → HandsOver (g (get_or ys i x)) between new result → now ≡ new → after ≡ result
-    → HandsOver (flat_map g (take (i + 1) xs)) old now after
+    → HandsOver (g (get_or ys i x)) between new result → now ≡ new → after ≡ result → HandsOver (flat_map g (take (i + 1) xs)) old now after
 handed_more f g xs ys i x old between new now before result after below step is u ok first second same ends =
     rw (owed_more g xs i x below (item_is f xs ys i x below step is), same, ends)
     (hands_more (flat_map g (take i xs)) (g x) old between new result (subst (HandsOver (flat_map g (take i xs)) old between) ok first) (subst (λ y. HandsOver (g y) between new result) (sym is) second))

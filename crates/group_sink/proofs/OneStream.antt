@@ -123,8 +123,7 @@ of_tick event calls big_sync bis at =
 of_no_tick : (event : ℕ) (calls : List Call) (big_sync : BigSync) (bis : ℕ) → ¬ Contains (streams_of big_sync.which) bis
     → of_stream bis (handed_by event calls (Some big_sync)) ≡ []
 of_no_tick event calls big_sync bis out =
-    parts event calls big_sync bis
-    ∙ none_of (part event calls big_sync bis) 1 31 (λ c least below. elim (cases_eq c bis) [
+    parts event calls big_sync bis ∙ none_of (part event calls big_sync bis) 1 31 (λ c least below. elim (cases_eq c bis) [
       | inr apart ↦ part_other event calls big_sync bis c apart
       | inl same ↦ grind (arith, cases_Bool, is_in, streams_of, is_member, part_is, cond-false, cond, eqb, units_on)
     ])

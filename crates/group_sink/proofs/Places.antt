@@ -7,8 +7,7 @@ range_split start zero m = grind (arith, range_with_len)
 range_split start (suc n) m =
     let past : (start + 1) + n ≡ start + suc n = omega arith in
     ap (range_with_len start) (let more : suc n + m ≡ suc (n + m) = omega arith in more)
-    ∙ ap (λ xs. start ∷ xs) (range_split (start + 1) n m)
-    ∙ ap (λ a. start ∷ (range_with_len (start + 1) n ++ range_with_len a m)) past
+    ∙ ap (λ xs. start ∷ xs) (range_split (start + 1) n m) ∙ ap (λ a. start ∷ (range_with_len (start + 1) n ++ range_with_len a m)) past
 
 indices_split : (bis : ℕ) → 1 ≤ bis → bis ≤ 31
     → range_with_len 1 31 ≡ range_with_len 1 (bis - 1) ++ bis ∷ range_with_len (bis + 1) (31 - bis)
@@ -54,8 +53,7 @@ stream_at f set bis least greatest = elim (cases_Bool (is_in set bis)) [
   | inl taken ↦
       ap (slice_get (map f (streams_of set))) (cond-true (is_in set bis) (length (below set bis)) 31 taken)
       ∙ ap (λ xs. slice_get (map f xs) (length (below set bis))) (streams_split set bis least greatest taken)
-      ∙ there f (below set bis) (above set bis) bis
-      ∙ sym (cond-true (is_in set bis) (Some (f bis)) None taken)
+      ∙ there f (below set bis) (above set bis) bis ∙ sym (cond-true (is_in set bis) (Some (f bis)) None taken)
   | inr free ↦
       ap (slice_get (map f (streams_of set))) (cond-false (is_in set bis) (length (below set bis)) 31 free)
       ∙ past (map f (streams_of set)) 31
@@ -96,8 +94,7 @@ streams_same f g set bis free same = others (range_with_len 1 31)
       | inr apart ↦ kept_same (is_in set x) f g x (filter (is_in set) xs) (same x apart) (others xs)
       | inl is ↦
           let out : is_in set x ≡ false = ap (is_in set) is ∙ free in
-          ap (map f) (cond-false (is_in set x) (x ∷ filter (is_in set) xs) (filter (is_in set) xs) out)
-          ∙ others xs
+          ap (map f) (cond-false (is_in set x) (x ∷ filter (is_in set) xs) (filter (is_in set) xs) out) ∙ others xs
           ∙ ap (map g) (sym (cond-false (is_in set x) (x ∷ filter (is_in set) xs) (filter (is_in set) xs) out))
     ]
 
@@ -134,8 +131,7 @@ free_is set bis index here free = rw (← here) (ne_eqb (bit_at set (bis - 1)) 1
 pub streams_more : {X : Type 0} (f : ℕ → X) (set index : ℕ) (streams more : List X) (stream : X) → 1 ≤ index
     → streams ≡ map f (below set index) → is_in set index ≡ true → stream ≡ f index → more ≡ streams ++ stream ∷ []
     → more ≡ map f (below set (index + 1))
-streams_more f set index streams more stream least is taken fresh pushed =
-    grind (arith, is_in, set, map, map-append, cond-true, below_more)
+streams_more f set index streams more stream least is taken fresh pushed = grind (arith, is_in, set, map, map-append, cond-true, below_more)
 
 pub places_more : {X : Type 0} (f : ℕ → X) (set_of index : ℕ) (streams : List X) (places more : List ℕ) → 1 ≤ index → index ≤ 31
     → streams ≡ map f (below set_of index) → is_in set_of index ≡ true

@@ -75,13 +75,10 @@ hear_after big_sync calls event bis subevent octets least greatest bounds =
     ap (λ streams. record { info = big_sync.info; places = places_of big_sync.which; streams = streams })
     (ap (λ found. heard_at number octets (place_on bis on) found on.streams) (stream_is big_sync calls bis least greatest)
     ∙ heard_cases (is_in big_sync.which bis) number octets (place_on bis on) (stream_after big_sync calls bis) (stream_after big_sync now bis)
-    on.streams (map (stream_after big_sync now) (streams_of big_sync.which))
-    (hear_own big_sync calls event bis subevent octets bounds)
-    (λ taken.
-    ap (λ n. slice_set on.streams n (stream_after big_sync now bis)) (place_is big_sync calls bis least greatest)
+    on.streams (map (stream_after big_sync now) (streams_of big_sync.which)) (hear_own big_sync calls event bis subevent octets bounds)
+    (λ taken. ap (λ n. slice_set on.streams n (stream_after big_sync now bis)) (place_is big_sync calls bis least greatest)
     ∙ stream_set (stream_after big_sync calls) (stream_after big_sync now) big_sync.which bis least greatest taken
-    (hear_other big_sync calls event bis subevent octets))
-    (grind (arith, streams_same, stream_after, hear_other)))
+    (hear_other big_sync calls event bis subevent octets)) (grind (arith, streams_same, stream_after, hear_other)))
 
 -- what the PDUs of an event make of them
 where_own : (big_sync : BigSync) (calls : List Call) (event bis subevent : ℕ) (pdu : Option (List ℕ)) → Bounds big_sync.info
@@ -122,10 +119,8 @@ event_after big_sync calls event bis pdus least greatest bounds =
     ap (λ streams. record { info = big_sync.info; places = places_of big_sync.which; streams = streams })
     (ap (λ found. all_heard_at big_sync.info event pdus (place_on bis on) found on.streams) (stream_is big_sync calls bis least greatest)
     ∙ all_heard_cases (is_in big_sync.which bis) big_sync.info event pdus (place_on bis on) (stream_after big_sync calls bis) (stream_after big_sync now bis)
-    on.streams (map (stream_after big_sync now) (streams_of big_sync.which))
-    (first_own big_sync calls event bis pdus (length pdus) bounds)
-    (λ taken.
-    ap (λ n. slice_set on.streams n (stream_after big_sync now bis)) (place_is big_sync calls bis least greatest)
+    on.streams (map (stream_after big_sync now) (streams_of big_sync.which)) (first_own big_sync calls event bis pdus (length pdus) bounds)
+    (λ taken. ap (λ n. slice_set on.streams n (stream_after big_sync now bis)) (place_is big_sync calls bis least greatest)
     ∙ stream_set (stream_after big_sync calls) (stream_after big_sync now) big_sync.which bis least greatest taken
     (first_other big_sync calls event bis pdus (length pdus)))
     (λ free. streams_same (stream_after big_sync calls) (stream_after big_sync now) big_sync.which bis free

@@ -100,8 +100,7 @@ written octets len header count offset part k n m room k_is n_is m_is =
     let second = set first (len + 1) count in
     let first_len : length first ≡ length octets = simp length-set in
     let second_len : length second ≡ length octets = simp length-set in
-    let third_len : length (put_mid (len + 2) n second offset) ≡ length octets =
-    omega (
+    let third_len : length (put_mid (len + 2) n second offset) ≡ length octets = omega (
       arith,
       length-append (take (len + 2) second) (offset ++ drop n (drop (len + 2) second)),
       length-append offset (drop n (drop (len + 2) second)),

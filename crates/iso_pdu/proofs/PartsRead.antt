@@ -115,9 +115,7 @@ parts_from-segments (part ∷ parts) place prefix rest h =
     let others = h.1 in
     let regrouped : (first ++ others) ++ rest ≡ first ++ (others ++ rest) = append_assoc first others rest in
     let there : place + length first + length others ≡ place + length (first ++ others) = omega (arith, length-append first others) in
-    rw h.4
-    (ap (λ (os : List ℕ). parts_from place zero os) regrouped
-    ∙ parts_from-segment part place first (others ++ rest) h.2
+    rw h.4 (ap (λ (os : List ℕ). parts_from place zero os) regrouped ∙ parts_from-segment part place first (others ++ rest) h.2
     ∙ ap (before part) (parts_from-segments parts (place + length first) others rest h.3 ∙ ap (λ (p : ℕ). befores parts (parts_from p zero rest)) there))
 
 pub parts_from-layout : (place : ℕ) (octets : List ℕ) (parts : List Part) → SegmentsAre parts octets → parts_from place zero octets ≡ Ok parts

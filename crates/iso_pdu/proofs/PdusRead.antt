@@ -188,8 +188,7 @@ at_cut_read : (P : List ℕ → Type 0) (fault : ℕ → PduFault) (place : ℕ)
 at_cut_read P fault place payload stands cut =
     let rest_read : parts_from (0 + length cut.1) zero cut.2 ≡ Err (fault (0 + length cut.1)) = stands (0 + length cut.1) cut.2 cut.5 in
     let there : 0 + length cut.1 ≡ place = omega (arith, cut.4) in
-    rw cut.6
-    (grind (arith, parts_from-segments cut.0 0 cut.1 cut.2 cut.3, befores-err cut.0 (fault (0 + length cut.1))))
+    rw cut.6 (grind (arith, parts_from-segments cut.0 0 cut.1 cut.2 cut.3, befores-err cut.0 (fault (0 + length cut.1))))
 
 in_framed_read : (P : List ℕ → Type 0) (fault : PduFault) (max_pdu : ℕ) (octets : List ℕ) → ((payload : List ℕ) → P payload → parts_of payload ≡ Err fault) → InFramed max_pdu P octets
     → read_of max_pdu octets ≡ Err fault

@@ -24,8 +24,7 @@ map_append f start zero n = grind arith
 map_append f start (suc m) n =
     let more : suc m + n ≡ suc (m + n) = omega arith in
     let next : start + 1 + m ≡ start + suc m = omega arith in
-    ap (λ k. map f (range_with_len start k)) more
-    ∙ ap (λ xs. f start ∷ xs) (map_append f (start + 1) m n)
+    ap (λ k. map f (range_with_len start k)) more ∙ ap (λ xs. f start ∷ xs) (map_append f (start + 1) m n)
     ∙ ap (λ k. f start ∷ map f (range_with_len (start + 1) m) ++ map f (range_with_len k n)) next
 
 -- a range from its i-th number on

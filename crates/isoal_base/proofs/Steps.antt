@@ -83,10 +83,7 @@ hear_kept read stay calls event kept number octets part some stands least below 
     let index : event * stay.info.bn + (number - event * stay.info.bn) ≡ number = omega arith in
     let nothing : heard read stay calls number ≡ None = grind (arith, cases_option, true≢false) in
     let entered : heard read stay (hear number octets ∷ calls) number ≡ Some part = grind (arith, heard_new, entry_here, window_is) in
-    record {
-      event_is = stands.event_is;
-      kept_is = grind (arith, map_changed, other_same);
-    }
+    record { event_is = stands.event_is; kept_is = grind (arith, map_changed, other_same) }
 
 hear_placed : {A : Type 0} (read : List ℕ → Option A) (stay : Stay) (calls : List Call) (event : ℕ) (kept : List (Option A)) (number : ℕ) (octets : List ℕ) (part : A)
     → 1 ≤ stay.info.bn → StandsFor read stay calls event kept → read octets ≡ Some part → (low inside full : Bool)
@@ -94,14 +91,12 @@ hear_placed : {A : Type 0} (read : List ℕ → Option A) (stay : Stay) (calls :
     → is_some (get_or kept (number - event * stay.info.bn) None) ≡ full
     → StandsFor read stay (hear number octets ∷ calls) event (kept_by (cond low Late (cond inside (cond full Repeat Kept) Beyond)) kept (number - event * stay.info.bn) (Some part))
 hear_placed read stay calls event kept number octets part some stands reads true inside full is_low is_inside is_full =
-    hear_outside read stay calls event kept number octets stands
-    (λ within.
+    hear_outside read stay calls event kept number octets stands (λ within.
     let least : event * stay.info.bn ≤ number = window_least stay event number some within in
     let below : number < event * stay.info.bn = ltb-true number (event * stay.info.bn) is_low in
     omega arith)
 hear_placed read stay calls event kept number octets part some stands reads false false full is_low is_inside is_full =
-    hear_outside read stay calls event kept number octets stands
-    (λ within.
+    hear_outside read stay calls event kept number octets stands (λ within.
     let below : number < event * stay.info.bn + window_of stay.info = window_below stay event number some within.1 in
     let past : event * stay.info.bn + window_of stay.info ≤ number = ltb-false number (event * stay.info.bn + window_of stay.info) is_inside in
     omega arith)

@@ -16,10 +16,7 @@ stands_lay info calls sender stands =
     let k = per_event_of info in
     let t = begun info calls in
     let swapped : min (length (accepted calls)) (t + k) ≡ min (t + k) (length (accepted calls)) = omega arith in
-    record {
-      group = stands.group;
-      waiting = grind (arith, drop-drop, drop_min);
-    }
+    record { group = stands.group; waiting = grind (arith, drop-drop, drop_min) }
 
 pub waiting_is : (info : BigInfo) (calls : List Call) (sender : Sender) → StandsFor info calls sender → length sender.waiting ≡ length (accepted calls) - begun info calls
 waiting_is info calls sender stands = ap length stands.waiting ∙ length-drop (begun info calls) (accepted calls)

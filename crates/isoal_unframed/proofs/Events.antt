@@ -1,6 +1,5 @@
 -- The events of an air by their payload numbers.
-use Rattle.isoal_unframed.proofs.Prelude.{ℕ, ◌≡◌, ◌<◌, ◌≤◌, ◌+◌, ◌*◌, ◌/◌, ◌%◌, zero, suc, List, [], ◌∷◌, length, drop, map, Some, None, arith, ◌∙◌, ap, sym, refl, inl, inr, cases_eq, eq-eqb, ne_eqb, get_or-map-range_with_len, length-map-range_with_len, div-add-mod', div-mul-add, mod-mul-add, mod_below, mul-add-lt, slice_get-get_or, range_with_len, slice_get, per_event_of, per_unit_of, BigInfo, pdu, Laid, event_at, pdu_at, laid_u, next_event, unframed_air, Call, accept, lay, accepted, begun, events, Sender, StandsFor, event_pdus, laid}
-use Rattle.std.specs.Option.{option_and_then}
+use Rattle.isoal_unframed.proofs.Prelude.{ℕ, ◌≡◌, ◌<◌, ◌≤◌, ◌+◌, ◌*◌, ◌/◌, ◌%◌, zero, suc, List, [], ◌∷◌, length, drop, map, Some, None, arith, ◌∙◌, ap, sym, refl, inl, inr, cases_eq, eq-eqb, ne_eqb, get_or-map-range_with_len, length-map-range_with_len, div-add-mod', div-mul-add, mod-mul-add, mod_below, mul-add-lt, slice_get-get_or, range_with_len, slice_get, per_event_of, per_unit_of, BigInfo, pdu, Laid, event_at, pdu_at, laid_u, next_event, unframed_air, Call, accept, lay, accepted, begun, events, Sender, StandsFor, event_pdus, laid, option_and_then}
 use Rattle.isoal_unframed.proofs.Rows.{map_same, rows}
 use Rattle.isoal_unframed.specs.Air.{unit_at}
 

@@ -42,8 +42,7 @@ owed_more stay event slot slots time first start places was kept old now new is_
     let under : slot < per_event_of stay.info = subst (λ k. slot < k) all below in
     hand_more (owed_of stay event (drop start was)) old now new (owed_at stay event (drop start was) slot) slot before
     (subst (λ k. slot < k) (sym (length-owed stay event (drop start was))) under)
-    (get-owed stay event (drop start was) slot (owed_at stay event (drop start was) slot) under)
-    (after ∙ ap (λ u. now ++ u ∷ []) unit)
+    (get-owed stay event (drop start was) slot (owed_at stay event (drop start was) slot) under) (after ∙ ap (λ u. now ++ u ∷ []) unit)
 
 pub owed_stops : (stay : Stay) (event slot slots : ℕ) (kept : List (Option Content)) (old now new : List Handed) (unit : Handed) (fault : TakerFault)
     → (r : Result (Unit {0}) TakerFault) → IsErr r

@@ -90,8 +90,7 @@ same_prefix [] [] x y same count = refl
 same_prefix [] (part ∷ b) x y same count = absurd (omega arith)
 same_prefix (part ∷ a) [] x y same count = absurd (omega arith)
 same_prefix (part ∷ a) (other ∷ b) x y same count =
-    ap (λ p. p ∷ a) (same_Some part other (ap head_of same))
-    ∙ ap (λ ps. other ∷ ps) (same_prefix a b x y (ap tail_of same) (omega arith))
+    ap (λ p. p ∷ a) (same_Some part other (ap head_of same)) ∙ ap (λ ps. other ∷ ps) (same_prefix a b x y (ap tail_of same) (omega arith))
 
 pub longest_is_held : (room : ℕ) (slot : List (Option Content)) (octets : ℕ) → IsHeld room slot octets → octets ≡ held_in room slot
 longest_is_held room slot octets held = grind (arith, prefix_of, prefix_is, longest, same_prefix, held_count)

@@ -1,8 +1,6 @@
 -- What a ring keeps, and how it changes.
-use Rattle.isoal_unframed.proofs.Prelude.{ℕ, zero, suc, ◌≡◌, ◌+◌, ◌-◌, ◌*◌, ◌<◌, ◌≤◌, true, cond, leb, List, [], ◌∷◌, ◌++◌, length, take, drop, set, replicate, get_or, Option, Some, None, is_some, refl, sym, ap, ◌∙◌, subst, arith, All, copy_within, take-take, take_at, drop_at, drop-drop, take-append-le, drop-append-le, length-take-le, length-append, drop_more, length-drop, drop-take, append_assoc, length-take, length-replicate, get_or-take, get_or-drop, add-mul, mul-le, Content, end, Empty, Fragment, End, count_of, Within, entry_in, kept_in, held_cells, unit_after, unit_of, held_in}
-use Rattle.std.specs.Option.{IfSome, option_map}
+use Rattle.isoal_unframed.proofs.Prelude.{ℕ, zero, suc, ◌≡◌, ◌+◌, ◌-◌, ◌*◌, ◌<◌, ◌≤◌, true, cond, leb, List, [], ◌∷◌, ◌++◌, length, take, drop, set, replicate, get_or, Option, Some, None, is_some, refl, sym, ap, ◌∙◌, subst, arith, All, copy_within, take-take, take_at, drop_at, drop-drop, take-append-le, drop-append-le, length-take-le, length-append, drop_more, length-drop, drop-take, append_assoc, length-take, length-replicate, get_or-take, get_or-drop, add-mul, mul-le, Content, end, Empty, Fragment, End, count_of, Within, entry_in, kept_in, held_cells, unit_after, unit_of, held_in, IfSome, option_map, Cell}
 use Rattle.std.proofs.lemmas.Slice.{drop-append-drop}
-use Rattle.isoal_unframed.specs.declared.cell.Cell.{Cell}
 use Rattle.isoal_unframed.proofs.Places.{slot_fits}
 
 pub length-kept : (m : ℕ) (cells : List Cell) (block : List ℕ) → length (kept_in m cells block) ≡ length cells
@@ -18,8 +16,7 @@ drop-kept m zero cells block = grind arith
 drop-kept m (suc n) [] block = refl
 drop-kept m (suc n) (cell ∷ cells) block =
     let more : m + n * m ≡ suc n * m = omega arith in
-    drop-kept m n cells (drop m block)
-    ∙ ap (kept_in m (drop n cells)) (drop-drop (n * m) m block ∙ ap (λ k. drop k block) more)
+    drop-kept m n cells (drop m block) ∙ ap (kept_in m (drop n cells)) (drop-drop (n * m) m block ∙ ap (λ k. drop k block) more)
 
 -- an entry is within its place
 pub entry_same : (m : ℕ) (cell : Cell) (a b : List ℕ) → Within m cell → take m a ≡ take m b → entry_in cell a ≡ entry_in cell b
@@ -65,8 +62,7 @@ moved_rest block len from count behind order room past =
     ap (λ k. drop k (take len block ++ take count (drop from block) ++ drop (len + count) block)) (sym sum)
     ∙ sym (drop-drop (behind - (len + count)) (len + count) (take len block ++ take count (drop from block) ++ drop (len + count) block))
     ∙ ap (drop (behind - (len + count))) (drop_at (take len block ++ take count (drop from block)) (drop (len + count) block) (len + count) both)
-    ∙ drop-drop (behind - (len + count)) (len + count) block
-    ∙ ap (λ k. drop k block) sum
+    ∙ drop-drop (behind - (len + count)) (len + count) block ∙ ap (λ k. drop k block) sum
 
 -- a cell's part is within its place, and its place within the block
 pub cell_fits : (m at : ℕ) (cells : List Cell) (cell : Cell) → All (Within m) cells → at < length cells
@@ -155,8 +151,7 @@ set-kept m (suc at) (old ∷ cells) block part cell entry all below room fits re
     ≡ take (at * m) (drop m block) ++ (part ++ drop (at * m + length part) (drop m block)) = grind (arith, drop-append-le, drop-take, drop-drop) in
     ap (λ k. kept_in m (old ∷ set cells at cell) (take k block ++ (part ++ drop (k + length part) block))) (sym more)
     ∙ ap (λ x. x ∷ kept_in m (set cells at cell) (drop m (take (m + at * m) block ++ (part ++ drop (m + at * m + length part) block)))) here
-    ∙ ap (λ b. entry_in old block ∷ kept_in m (set cells at cell) b) behind
-    ∙ ap (λ xs. entry_in old block ∷ xs)
+    ∙ ap (λ b. entry_in old block ∷ kept_in m (set cells at cell) b) behind ∙ ap (λ xs. entry_in old block ∷ xs)
     (set-kept m at cells (drop m block) part cell entry (all_more m old cells all) (omega arith) (length-drop m block ∙ omega arith) fits reads)
 
 -- the entries of a slot, from its own cells and octets
@@ -225,12 +220,10 @@ slot_behind m first n cells items ys block within size count is =
     let room : first * m + n * m ≤ length items = slot_size m first n cells items within size in
     let sum : first * m + n * m ≡ (first + n) * m = sym (add-mul first n m) in
     let prefix : length (take (first * m) items) ≡ first * m = length-take-le (first * m) items (omega arith) in
-    kept_behind m (first + n) cells block items
-    (ap (λ k. drop k block) (sym sum)
+    kept_behind m (first + n) cells block items (ap (λ k. drop k block) (sym sum)
     ∙ ap (drop (first * m + n * m)) (is ∙ sym (append_assoc (take (first * m) items) ys (drop (first * m + n * m) items)))
     ∙ drop_at (take (first * m) items ++ ys) (drop (first * m + n * m) items) (first * m + n * m)
-    (length-append (take (first * m) items) ys ∙ omega arith)
-    ∙ ap (λ k. drop k items) sum)
+    (length-append (take (first * m) items) ys ∙ omega arith) ∙ ap (λ k. drop k items) sum)
 
 pub slot_octets : (m first n k : ℕ) (cells : List Cell) (items ys block : List ℕ) → first + n ≤ length cells
     → length items ≡ length cells * m → k ≤ length ys → block ≡ take (first * m) items ++ (ys ++ drop (first * m + n * m) items)

@@ -78,8 +78,7 @@ carried_unit m most prefix unit (Some content ∷ slot) positive fits agrees car
           ap (λ c. unit_after most prefix (Some c ∷ slot)) full
           ∙ carried_unit m most (prefix ++ take m unit) (drop m unit) slot positive (subst (λ xs. length xs ≤ most) (sym whole) fits)
           (λ r other is. agrees (suc r) other is ∙ ap (laid_unit m unit) (omega arith) ∙ laid_next m unit r positive past)
-          (λ r below. carries (suc r) (omega arith))
-          ∙ ap Some whole
+          (λ r below. carries (suc r) (omega arith)) ∙ ap Some whole
       | inr small ↦ grind (arith, fragments_of, one_fragment, end, laid_end, drop, unit_after, cond-true, leb, length, le-leb)
     ]
 

@@ -1,5 +1,5 @@
 -- What the proofs of this crate use of `std` and of the crates below it, by one import.
-pub use Rattle.std.proofs.Common.{inl, inr, ℕ, ◌≡◌, ◌≤◌, true, leb, List, [], ◌∷◌, ◌++◌, length, map, Option, Some, None, refl, sym, ap, ◌∙◌, subst, arith, ◌+◌, ◌*◌, ◌-◌, min, zero, suc, drop, ◌<◌, cond, take, set, replicate, get_or, is_some, ◌%◌, ltb, ◌/◌, false, vec_len, option_copied, ◌⊎◌, Result, Err, Bool, not, eqb, max}
+pub use Rattle.std.proofs.Common.{inl, inr, ℕ, ◌≡◌, ◌≤◌, true, leb, List, [], ◌∷◌, ◌++◌, length, map, Option, Some, None, refl, sym, ap, ◌∙◌, subst, arith, ◌+◌, ◌*◌, ◌-◌, min, zero, suc, drop, ◌<◌, cond, take, set, replicate, get_or, is_some, ◌%◌, ltb, ◌/◌, false, vec_len, option_copied, ◌⊎◌, Result, Err, Bool, not, eqb, max, slice_set, ◌^◌}
 pub use Rattle.std.proofs.Math.Nat.{add-mul, mod-eq_of_lt, mod_self, mod-lt, div-eq_of_lt, suc-mod, add-div_right, add-mod_right, add-div_left, add-mod_left, div_self, mul-add-div_right, mul-add-mod_self_right}
 pub use Rattle.std.proofs.lemmas.Bool.{cond-true, leb-true, le-leb, cases_Bool, cond-false, cases_lt, false≢true, lt-ltb, le-ltb, cases_order, eq-eqb, ne_eqb, ltb-true, ltb-false, true≢false, cases_eq}
 pub use Rattle.std.proofs.lemmas.Grind.{div_ceil_times}
@@ -23,10 +23,15 @@ pub use Rattle.isoal_unframed.specs.Calls.{Call, accept, lay, accepted, begun, l
 pub use Rattle.isoal_unframed.specs.Histories.{heard_in, unit_at, units_of, numbers_of, handed}
 pub use Rattle.isoal_unframed.specs.Slot.{fragments_of, laid_unit, laid}
 pub use Rattle.isoal_unframed.specs.State.Cells.{kept_in, held_cells, turned, count_of, Within, entry_in, part_of}
-pub use Rattle.isoal_unframed.specs.State.Rings.{kept_of}
+pub use Rattle.isoal_unframed.specs.State.Rings.{kept_of, octets_at}
 pub use Rattle.isoal_unframed.specs.State.Sender.{Sender, StandsFor, event_pdus, slot_pdus, IsSender, after_event, with_unit, Begins}
 pub use Rattle.isoal_unframed.specs.State.Streams.{stay_of, place_of, place_at}
 pub use Rattle.isoal_unframed.specs.State.Windows.{time_of, handed_of, owed_at, owed_of, Window, Stands, after_hear, after_close, owed, held_in_event, slot_in, held_at}
 pub use Rattle.isoal_unframed.specs.Units.{unit_after, unit_of, held_in, unframed, IsUnit, IsPrefix, IsHeld, count_in}
 pub use Rattle.isoal_unframed.specs.declared.cell.Cell.TheVariants.{Empty, Fragment, End}
 pub use Rattle.unit_outlets.specs.Handed.{HandsOver, Handed}
+pub use Rattle.isoal_base.proofs.Citable.{cases_option, map_append}
+pub use Rattle.std.specs.Option.{IfSome, option_map, option_and_then}
+pub use Rattle.isoal_unframed.specs.declared.cell.Cell.{Cell}
+pub use Rattle.isoal_unframed.specs.declared.ring.Ring.{Ring}
+pub use Rattle.std.proofs.lemmas.Result.{on_ok_weaker, IfOk-weaker}

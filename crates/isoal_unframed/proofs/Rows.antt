@@ -1,6 +1,5 @@
 -- Lists that are made from a function of the index, and places of a list in rows.
-use Rattle.isoal_unframed.proofs.Prelude.{ℕ, ◌≡◌, ◌<◌, ◌+◌, ◌*◌, ◌/◌, ◌%◌, zero, suc, List, [], ◌++◌, map, arith, ◌∙◌, ap, sym, refl, append-nil, append_assoc, div-mul-add, mod-mul-add, flat_map, range_with_len}
-use Rattle.isoal_base.proofs.Citable.{map_append}
+use Rattle.isoal_unframed.proofs.Prelude.{ℕ, ◌≡◌, ◌<◌, ◌+◌, ◌*◌, ◌/◌, ◌%◌, zero, suc, List, [], ◌++◌, map, arith, ◌∙◌, ap, sym, refl, append-nil, append_assoc, div-mul-add, mod-mul-add, flat_map, range_with_len, map_append}
 
 pub map_same : {X : Type 0} (f g : ℕ → X) (a b n : ℕ) → ((i : ℕ) → i < n → f (a + i) ≡ g (b + i)) → map f (range_with_len a n) ≡ map g (range_with_len b n)
 map_same f g a b zero same = refl

@@ -37,8 +37,7 @@ closed_same stay (close ∷ later) calls number below =
 closed_same stay (hear given octets ∷ later) calls number below =
     let still : opened stay calls ≤ opened stay (later ++ calls) = opened_later stay later calls in
     heard_same (read_as unframed stay.info.max_pdu) stay (hear given octets) (later ++ calls) number
-    (grind (arith, entry_outside, read_as, unframed, opened))
-    ∙ closed_same stay later calls number below
+    (grind (arith, entry_outside, read_as, unframed, opened)) ∙ closed_same stay later calls number below
 
 -- each kept PDU is the source's own
 agrees_source : (stay : Stay) (slots : Slots) (calls : List Call) (number : ℕ) (content : Content) → FromSource stay slots calls

@@ -65,8 +65,7 @@ turned_next place bn was now within is =
     let joined : now ≡ (take place was ++ replicate bn None) ++ drop (place + bn) was =
     is ∙ sym (append_assoc (take place was) (replicate bn None) (drop (place + bn) was)) in
     let rest : length (drop place was) ≡ length was - place = length-drop place was in
-    ap (turned (place + bn)) joined
-    ∙ ap (λ xs. xs ++ take (place + bn) ((take place was ++ replicate bn None) ++ drop (place + bn) was))
+    ap (turned (place + bn)) joined ∙ ap (λ xs. xs ++ take (place + bn) ((take place was ++ replicate bn None) ++ drop (place + bn) was))
     (drop_at (take place was ++ replicate bn None) (drop (place + bn) was) (place + bn) both)
     ∙ ap (λ xs. drop (place + bn) was ++ xs) (take_at (take place was ++ replicate bn None) (drop (place + bn) was) (place + bn) both)
     ∙ sym (append_assoc (drop (place + bn) was) (take place was) (replicate bn None))

@@ -1,6 +1,5 @@
 -- The unit of a slot from left to right is the unit of the slot.
-use Rattle.isoal_unframed.proofs.Prelude.{inl, inr, ℕ, ◌≡◌, ◌≤◌, true, leb, List, [], ◌∷◌, ◌++◌, length, map, Option, Some, None, refl, sym, ap, ◌∙◌, subst, arith, concat, cond-true, leb-true, le-leb, none-some, cond_some, append_assoc, Content, end, fragment, IsUnit, unit_after, unit_of}
-use Rattle.isoal_base.proofs.Citable.{cases_option}
+use Rattle.isoal_unframed.proofs.Prelude.{inl, inr, ℕ, ◌≡◌, ◌≤◌, true, leb, List, [], ◌∷◌, ◌++◌, length, map, Option, Some, None, refl, sym, ap, ◌∙◌, subst, arith, concat, cond-true, leb-true, le-leb, none-some, cond_some, append_assoc, Content, end, fragment, IsUnit, unit_after, unit_of, cases_option}
 
 -- a unit behind a prefix
 record IsUnitAfter (max_sdu : ℕ) (prefix : List ℕ) (slot : List (Option Content)) (octets : List ℕ) : Type 0 where
@@ -43,8 +42,7 @@ read_after max_sdu prefix [] last others fits = grind (arith, cond-true, le-leb)
 read_after max_sdu prefix (part ∷ fragments) last others fits =
     let same : (prefix ++ part) ++ (concat fragments ++ last) ≡ prefix ++ ((part ++ concat fragments) ++ last) =
     append_assoc prefix part (concat fragments ++ last) ∙ ap (λ xs. prefix ++ xs) (sym (append_assoc part (concat fragments) last)) in
-    read_after max_sdu (prefix ++ part) fragments last others (subst (λ xs. length xs ≤ max_sdu) (sym same) fits)
-    ∙ ap Some same
+    read_after max_sdu (prefix ++ part) fragments last others (subst (λ xs. length xs ≤ max_sdu) (sym same) fits) ∙ ap Some same
 
 pub unit_is : (max_sdu : ℕ) (slot : List (Option Content)) (octets : List ℕ)
     → unit_of max_sdu slot ≡ Some octets → IsUnit max_sdu slot octets

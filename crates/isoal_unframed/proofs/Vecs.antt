@@ -14,6 +14,5 @@ moved_nowhere xs from count to here =
     ap (λ n. take from xs ++ take n (drop from xs) ++ drop (from + n) xs) many
     ∙ ap (λ ys. take from xs ++ take count (drop from xs) ++ ys) (sym (drop-drop count from xs))
     ∙ append_assoc (take from xs) (take count (drop from xs)) (drop count (drop from xs))
-    ∙ ap (λ ys. take from xs ++ ys) (take-append-drop count (drop from xs))
-    ∙ take-append-drop from xs in
+    ∙ ap (λ ys. take from xs ++ ys) (take-append-drop count (drop from xs)) ∙ take-append-drop from xs in
     subst (λ n. xs ≡ copy_within xs from (from + count) n) here (sym there)

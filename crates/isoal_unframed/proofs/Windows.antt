@@ -1,9 +1,8 @@
 -- What is owed and held over a ring that is read from the open event's place on.
-use Rattle.isoal_unframed.proofs.Prelude.{ℕ, ◌≡◌, ◌+◌, ◌-◌, ◌*◌, ◌%◌, ◌<◌, ◌≤◌, Bool, not, cond, List, ◌++◌, length, map, take, drop, set, replicate, get_or, vec_len, Option, None, is_some, sym, ap, ◌∙◌, inl, inr, arith, range_with_len, sum, cond-true, cond-false, lt-ltb, le-ltb, true≢false, false≢true, add-mul, drop-replicate, take-replicate, replicate-append-replicate, sum_by-map-range_with_len_more, BigInfo, horizon_of, per_event_of, per_unit_of, Content, Stay, window_of, placing, kept_of, turned, place_of, place_at, owed_of, held_in_event, slot_in}
+use Rattle.isoal_unframed.proofs.Prelude.{ℕ, ◌≡◌, ◌+◌, ◌-◌, ◌*◌, ◌%◌, ◌<◌, ◌≤◌, Bool, not, cond, List, ◌++◌, length, map, take, drop, set, replicate, get_or, vec_len, Option, None, is_some, sym, ap, ◌∙◌, inl, inr, arith, range_with_len, sum, cond-true, cond-false, lt-ltb, le-ltb, true≢false, false≢true, add-mul, drop-replicate, take-replicate, replicate-append-replicate, sum_by-map-range_with_len_more, BigInfo, horizon_of, per_event_of, per_unit_of, Content, Stay, window_of, placing, kept_of, turned, place_of, place_at, owed_of, held_in_event, slot_in, Ring}
 use Rattle.isoal_base.specs.declared.heard.Heard.TheVariants.{Repeat, Kept}
 use Rattle.isoal_base.proofs.Citable.{map_same}
 use Rattle.isoal_unframed.specs.State.Opening.{IsOpen}
-use Rattle.isoal_unframed.specs.declared.ring.Ring.{Ring}
 use Rattle.isoal_unframed.specs.declared.stream.OpenEvent.{OpenEvent}
 use Rattle.isoal_unframed.proofs.Kept.{length-kept}
 use Rattle.isoal_unframed.proofs.Places.{slot_fits, event_fits}

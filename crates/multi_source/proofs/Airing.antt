@@ -16,8 +16,7 @@ newest_kept xs x none i is =
     let more : length (xs ++ x ∷ []) ≡ length xs + 1 = length-append xs (x ∷ []) in
     let from : ℕ = length (xs ++ x ∷ []) - 32 in
     let last : from + i - length xs ≡ 0 = omega arith in
-    get_or-drop from (xs ++ x ∷ []) i none
-    ∙ get_or-append_right xs (x ∷ []) (length xs) (from + i) none refl (omega arith)
+    get_or-drop from (xs ++ x ∷ []) i none ∙ get_or-append_right xs (x ∷ []) (length xs) (from + i) none refl (omega arith)
     ∙ ap (λ k. get_or (x ∷ []) k none) last
 
 earlier_kept : {A : Type 0} (xs : List A) (x none : A) (back i : ℕ) → back < length xs → back < 31 → i ≡ length (keep_last 32 (xs ++ x ∷ [])) - 1 - (back + 1)
@@ -27,9 +26,7 @@ earlier_kept xs x none back i below near is =
     let more : length (xs ++ x ∷ []) ≡ length xs + 1 = length-append xs (x ∷ []) in
     let from : ℕ = length (xs ++ x ∷ []) - 32 in
     let place : from + i ≡ length xs - 1 - back = omega arith in
-    get_or-drop from (xs ++ x ∷ []) i none
-    ∙ get_or_append_left xs (x ∷ []) none (from + i) (omega arith)
-    ∙ ap (λ k. get_or xs k none) place
+    get_or-drop from (xs ++ x ∷ []) i none ∙ get_or_append_left xs (x ∷ []) none (from + i) (omega arith) ∙ ap (λ k. get_or xs k none) place
 
 -- before the first event
 pub silent : (setup : Setup) (air : OnAir) → IsOfGroup setup air → air.events ≡ [] → IsOnAir setup [] air

@@ -52,8 +52,7 @@ performed setup calls old new before after pdus checked same pushed stands sends
         begun_is = refl;
         air = subst (IsOnAir setup (event ∷ calls)) (sym pushed)
             (event_on_air setup calls before.air pdus (subst (λ (s : Setup). IsChecked s.info) setup_is checked) on
-            (λ airs are. subst (λ at. Sends setup airs at pdus) next
-            (subst (λ (s : Setup). Sends s airs old.next pdus) setup_is
+            (λ airs are. subst (λ at. Sends setup airs at pdus) next (subst (λ (s : Setup). Sends s airs old.next pdus) setup_is
             (sends calls airs standing (subst (λ s. AreAirs s (event ∷ calls) airs) (sym setup_is) are)))));
       },
     )

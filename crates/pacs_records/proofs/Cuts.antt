@@ -123,8 +123,7 @@ short_fails place (first ∷ octets) small (cut, short) =
 
 list_fails : (place : ℕ) (bad : LtvBad) (octets : List ℕ) → length octets ≤ greatest_value → IsNoList place bad octets → value_in octets ≡ Err (Ltv place bad)
 list_fails place bad octets small n =
-    cut_fails n.cut.count n.cut.records n.cut.fields n.cut.rest octets (Ltv place bad) small n.cut.due n.cut.fit n.cut.parts
-    (record {
+    cut_fails n.cut.count n.cut.records n.cut.fields n.cut.rest octets (Ltv place bad) small n.cut.due n.cut.fit n.cut.parts (record {
       meet = n.cut.meet;
       why = inr (n.list, record { bad = bad; run = n.run; behind = n.behind; long = n.whole; parts = n.parts; what = n.what; same = ap (λ (p : ℕ). Ltv p bad) (at_cut place octets n.cut) });
     })

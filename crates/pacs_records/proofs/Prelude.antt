@@ -1,14 +1,14 @@
 -- What the proofs of this crate use of `std` and of the crates below it, by one import.
 pub use Rattle.std.proofs.Common.{◌≡◌, ℕ, zero, suc, ◌+◌, ◌<◌, ◌≤◌, ◌⊎◌, Bool, true, false, cond, eqb, ltb, List, [], ◌∷◌, ◌++◌, length, take, drop, Option, Some, None, Result, Ok, Err, refl, sym, ap, subst, ◌∙◌, append_assoc, arith, inl, inr, ◌↔◌, ◌-◌, bit_and, ◌||◌, ◌*◌, get_or, ◌/◌, ◌%◌, ◌&&◌}
 pub use Rattle.std.proofs.lemmas.Bool.{ltb-false, cases_lt, ne_eqb, le-ltb, eqb-true, ltb-true, eqb-false, lt-ltb, leb-true, le-leb, eq-eqb}
-pub use Rattle.std.proofs.lemmas.List.{length-append, append-nil, nil_from_length}
+pub use Rattle.std.proofs.lemmas.List.{length-append, append-nil, nil_from_length, at_drop_more}
 pub use Rattle.std.proofs.lemmas.List.Concat.{flat_map-cons}
 pub use Rattle.std.proofs.lemmas.Option.{same_Some}
 pub use Rattle.std.proofs.lemmas.Result.{err_from_is_err_and}
 pub use Rattle.std.proofs.lemmas.Slice.Eq.{bytes_eq-Decides}
 pub use Rattle.std.specs.Int.{bit_at}
 pub use Rattle.std.specs.List.{flat_map, AllByRecursion, list_any, find}
-pub use Rattle.std.specs.Prelude.{IfErr, IsOk, IfOk, not, option_and_then, Any, OnOk, is_none, nat_le, unwrap_or, IsSomeAnd}
+pub use Rattle.std.specs.Prelude.{IfErr, IsOk, IfOk, not, option_and_then, Any, OnOk, is_none, nat_le, unwrap_or, IsSomeAnd, ◌==◌, if◌then◌else◌}
 pub use Rattle.std.specs.Result.{result_err}
 pub use Rattle.std.specs.Str.{bytes_eq}
 pub use Rattle.base_grammar.specs.Layout.{lc3, is_lc3}

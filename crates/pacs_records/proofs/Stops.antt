@@ -98,8 +98,7 @@ caps_stop whole codec from fault five (inr cut) =
     ]
 
 metadata_stop : (whole codec caps from : List ℕ) (fault : PacFault) → length codec ≡ 5 → (codec ≡ lc3 → AreLtvs caps) → ((from ≡ []) × (Short (place_in whole from) ≡ fault))
-    ⊎ RunCut true whole from fault
-    → RecordStop whole ((codec ++ counted caps) ++ from) fault
+    ⊎ RunCut true whole from fault → RecordStop whole ((codec ++ counted caps) ++ from) fault
 metadata_stop whole codec caps from fault five listed (inl (none, same)) =
     record { fields = to_metadata_length codec caps; rest = from; stop = record { meet = (five, listed); why = inl (same, omega (arith, ap length none)) }; parts = refl }
 metadata_stop whole codec caps from fault five listed (inr cut) =
@@ -176,8 +175,7 @@ cut_of count from fault s =
       fit = s.fit;
       meet = s.stop.meet;
       parts = ap (λ (os : List ℕ). count ∷ os) s.parts;
-      at =
-          omega (arith, long);
+      at = omega (arith, long);
     }
 
 records_fault : (count : ℕ) (from : List ℕ) (fault : PacFault) → length (count ∷ from) ≤ greatest_value → RecordsStop (count ∷ from) count from fault → IsFault fault (count ∷ from)

@@ -27,8 +27,7 @@ end_cases whole s count tail fault (Ok rest) h later e r j =
       s = all;
       rest = rest;
       followed = whole_of whole s count tail g.0 rest h e g.1;
-      first =
-          answered_err (state_from all) (first_fault (reserved_from 0 (fields all)) (place_in whole rest) rest) fault j';
+      first = answered_err (state_from all) (first_fault (reserved_from 0 (fields all)) (place_in whole rest) rest) fault j';
     }
 
 head_cases : (whole : List ℕ) (fault : StateFault) (read : Result (StateFields × ℕ × List ℕ) ℕ) → IsOctets whole → ((place : ℕ) → fault ≡ Short place → ⊥) → head_in whole ≡ read
@@ -76,5 +75,4 @@ left end rest h = grind arith
 pub trailing_told : (place : ℕ) (octets : List ℕ) → IsTrailing place octets → state_of octets ≡ Err (Trailing place)
 trailing_told place octets t =
     let end : place_in octets t.1 ≡ place = place_left t.0 octets t.1 t.2 ∙ sym t.5 in
-    told t.0 octets t.1 (Trailing place) t.2
-    (grind (arith, first_fault, place_in, none_reserved, fields, left))
+    told t.0 octets t.1 (Trailing place) t.2 (grind (arith, first_fault, place_in, none_reserved, fields, left))

@@ -32,8 +32,7 @@ told_groups whole (group ∷ groups) rest p q le at ends =
     (free group.metadata ∷ flat_map subgroup_fields groups) p n
     (λ x. end_metadata whole (length groups) x.0 x.1) refl within there more refl
     (λ after' n' within' there' more'. told_octets (λ (r : Result (List ℕ) ℕ). r ≡ Err p) whole after' (length group.metadata) group.metadata (free group.metadata)
-    (flat_map subgroup_fields groups) p n'
-    (λ x. end_in whole (length groups) x.1) refl refl within' there' more' refl
+    (flat_map subgroup_fields groups) p n' (λ x. end_in whole (length groups) x.1) refl refl within' there' more' refl
     (λ tail m inside at' last. told_groups whole groups tail p m inside at' last)))
 
 -- ---- found
@@ -120,8 +119,7 @@ count_end whole n rest bits after p h le parts len empty there =
     }
 
 metadata_end : (whole : List ℕ) (n : ℕ) (rest bits after : List ℕ) (count : ℕ) (tail : List ℕ) (p : ℕ) → IsOctets rest → length rest ≤ length whole → rest ≡ bits ++ after → length bits ≡ 4
-    → after ≡ octet count ++ tail
-    → count < 256 → length tail < count → p ≡ place_in whole tail → GroupsEnd whole (suc n) rest p
+    → after ≡ octet count ++ tail → count < 256 → length tail < count → p ≡ place_in whole tail → GroupsEnd whole (suc n) rest p
 metadata_end whole n rest bits after count tail p h le parts len parts' small lt there =
     let octets : IsOctets bits = IsOctets-prefix bits after (subst IsOctets parts h) in
     let size : length rest ≡ length bits + length after = ap length parts ∙ length-append bits after in
@@ -173,8 +171,7 @@ pub found_groups : (whole : List ℕ) (n : ℕ) (rest : List ℕ) (p : ℕ) → 
 unfolding end_in
 found_groups whole zero rest p h le e = absurd cc
 found_groups whole (suc n) rest p h le e =
-    find_octets whole rest 4 p (λ x. end_count whole n x.1) (sym (end_is whole n rest) ∙ e)
-    (λ lt there. bits_end whole n rest p h lt there)
+    find_octets whole rest 4 p (λ x. end_count whole n x.1) (sym (end_is whole n rest) ∙ e) (λ lt there. bits_end whole n rest p h lt there)
     (λ bits after parts len e1. find_octet whole after p (λ x. end_metadata whole n x.0 x.1) e1
     (λ empty there. count_end whole n rest bits after p h le parts len empty there)
     (λ count tail parts' e2. find_octets whole tail count p (λ x. end_in whole n x.1) e2

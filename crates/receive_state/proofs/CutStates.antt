@@ -14,11 +14,8 @@ use Rattle.receive_state.proofs.Heads.{before, before-length, head_takes}
 behind_head : (s : StateFields) (q : ℕ) (tail : List ℕ) → EndsIn q (flat_map subgroup_fields s.groups) tail
     → EndsIn (1 + (1 + (length s.address + (1 + (length s.broadcast_id + (1 + (1 + (length s.bad_code + (1 + (q)))))))))) (fields s) (before s (length s.groups) tail)
 behind_head s q tail ends =
-    ends_more (free (octet s.source_id)) _ _ _
-    (ends_more (unless (nat_lt 1 s.address_type) (octet s.address_type)) _ _ _
-    (ends_more (free s.address) _ _ _
-    (ends_more (unless (nat_lt 15 s.sid) (octet s.sid)) _ _ _
-    (ends_more (free s.broadcast_id) _ _ _
+    ends_more (free (octet s.source_id)) _ _ _ (ends_more (unless (nat_lt 1 s.address_type) (octet s.address_type)) _ _ _
+    (ends_more (free s.address) _ _ _ (ends_more (unless (nat_lt 15 s.sid) (octet s.sid)) _ _ _ (ends_more (free s.broadcast_id) _ _ _
     (ends_more (unless (nat_lt 4 s.pa_sync_state) (octet s.pa_sync_state)) _ _ _
     (ends_more (unless (nat_lt 3 s.encryption) (octet s.encryption)) _ _ _ (ends_more (free s.bad_code) _ _ _ (ends_more (free (octet (length s.groups))) _ q tail ends))))))))
 

@@ -69,8 +69,7 @@ rest_takes from source x u e =
     let h2 : IsOctets s2.0.1 = t2.0.fits (t1.fits (t0.fits u.octets)) in
     let parts = t0.parts ∙ ap (λ (z : List ℕ). octet s0.0.0 ++ z) (t1.parts ∙ ap (λ (z : List ℕ). octet s1.0.0 ++ z) (t2.0.parts ∙ ap (λ (z : List ℕ). s2.0.0 ++ z) (t3.parts))) in
     let read : StateFields × ℕ × List ℕ = (record source.0 { pa_sync_state = s0.0.0; encryption = s1.0.0; bad_code = s2.0.0 }, s3.0.0, s3.0.1) in
-    subst (IsHead from) {x = read} (ok_is read x s3.2)
-    (record {
+    subst (IsHead from) {x = read} (ok_is read x s3.2) (record {
       parts = u.parts ∙ ap (source_before source.0) parts;
       octets = t3.fits h2;
       address = u.address;

@@ -49,21 +49,17 @@ found_count : (whole : List ℕ) (p : ℕ) (v0 : ℕ) (v1 : ℕ) (v2 : List ℕ)
     ∷ unless (nat_lt 3 v6) (octet v6) ∷ free v7 ∷ fs) rest
     → from_count whole (source_of v0 v1 v2 v3 v4) v5 v6 v7 rest ≡ Err p → EndsInHead whole p
 found_count whole p v0 v1 v2 v3 v4 v5 v6 v7 rest w2 w4 w7 left e =
-    find_octet whole rest p _ e
-    (λ empty there. record {
+    find_octet whole rest p _ e (λ empty there. record {
       s = record (source_of v0 v1 v2 v3 v4) { pa_sync_state = v5; encryption = v6; bad_code = v7 };
       widths = record { address = w2; broadcast_id = w4; bad_code = w7; few = omega arith; groups = tt };
       ends = ends_before p (free (octet 0)) _ left there refl empty;
-    })
-    (λ value after parts e'. absurd cc)
+    }) (λ value after parts e'. absurd cc)
 
 found_code : (whole : List ℕ) (p : ℕ) (v0 : ℕ) (v1 : ℕ) (v2 : List ℕ) (v3 : ℕ) (v4 : List ℕ) (v5 : ℕ) (v6 : ℕ) (rest : List ℕ) → length v2 ≡ 6 → length v4 ≡ 3
     → Left whole (λ fs. free (octet v0) ∷ unless (nat_lt 1 v1) (octet v1) ∷ free v2 ∷ unless (nat_lt 15 v3) (octet v3) ∷ free v4 ∷ unless (nat_lt 4 v5) (octet v5)
-    ∷ unless (nat_lt 3 v6) (octet v6) ∷ fs) rest
-    → from_code whole (source_of v0 v1 v2 v3 v4) v5 v6 rest ≡ Err p → EndsInHead whole p
+    ∷ unless (nat_lt 3 v6) (octet v6) ∷ fs) rest → from_code whole (source_of v0 v1 v2 v3 v4) v5 v6 rest ≡ Err p → EndsInHead whole p
 found_code whole p v0 v1 v2 v3 v4 v5 v6 rest w2 w4 left e =
-    find_octets whole rest (code_width v6) p _ e
-    (λ few there. record {
+    find_octets whole rest (code_width v6) p _ e (λ few there. record {
       s = record (source_of v0 v1 v2 v3 v4) { pa_sync_state = v5; encryption = v6; bad_code = filled (code_width v6) rest };
       widths = record { address = w2; broadcast_id = w4; bad_code = length-filled (code_width v6) rest few; few = omega arith; groups = tt };
       ends = ends_few p (code_width v6) _ left there few;
@@ -74,8 +70,7 @@ found_enc : (whole : List ℕ) (p : ℕ) (v0 : ℕ) (v1 : ℕ) (v2 : List ℕ) (
     → Left whole (λ fs. free (octet v0) ∷ unless (nat_lt 1 v1) (octet v1) ∷ free v2 ∷ unless (nat_lt 15 v3) (octet v3) ∷ free v4 ∷ unless (nat_lt 4 v5) (octet v5) ∷ fs) rest
     → from_enc whole (source_of v0 v1 v2 v3 v4) v5 rest ≡ Err p → EndsInHead whole p
 found_enc whole p v0 v1 v2 v3 v4 v5 rest w2 w4 left e =
-    find_octet whole rest p _ e
-    (λ empty there. record {
+    find_octet whole rest p _ e (λ empty there. record {
       s = record (source_of v0 v1 v2 v3 v4) { pa_sync_state = v5 };
       widths = record { address = w2; broadcast_id = w4; bad_code = refl; few = omega arith; groups = tt };
       ends = ends_before p (unless (nat_lt 3 0) (octet 0)) _ left there refl empty;
@@ -86,8 +81,7 @@ found_sync : (whole : List ℕ) (p : ℕ) (v0 : ℕ) (v1 : ℕ) (v2 : List ℕ) 
     → Left whole (λ fs. free (octet v0) ∷ unless (nat_lt 1 v1) (octet v1) ∷ free v2 ∷ unless (nat_lt 15 v3) (octet v3) ∷ free v4 ∷ fs) rest
     → from_sync whole (source_of v0 v1 v2 v3 v4) rest ≡ Err p → EndsInHead whole p
 found_sync whole p v0 v1 v2 v3 v4 rest w2 w4 left e =
-    find_octet whole rest p _ e
-    (λ empty there. record {
+    find_octet whole rest p _ e (λ empty there. record {
       s = source_of v0 v1 v2 v3 v4;
       widths = record { address = w2; broadcast_id = w4; bad_code = refl; few = omega arith; groups = tt };
       ends = ends_before p (unless (nat_lt 4 0) (octet 0)) _ left there refl empty;
@@ -99,13 +93,11 @@ found_id : (whole : List ℕ) (p : ℕ) (v0 : ℕ) (v1 : ℕ) (v2 : List ℕ) (v
     → (from_id whole v0 v1 v2 v3 rest >>= λ who. from_sync whole who.0 who.1) ≡ Err p → EndsInHead whole p
 found_id whole p v0 v1 v2 v3 rest w2 left e =
     find_octets whole rest 3 p (λ x. sourced (source_of v0 v1 v2 v3 x.0) x.1 >>= λ who. from_sync whole who.0 who.1) (sym
-    (grind (arith, assoc, place_in, octets_in, sourced, from_sync)) ∙ e)
-    (λ few there. record {
+    (grind (arith, assoc, place_in, octets_in, sourced, from_sync)) ∙ e) (λ few there. record {
       s = source_of v0 v1 v2 v3 (filled 3 rest);
       widths = record { address = w2; broadcast_id = length-filled 3 rest few; bad_code = refl; few = omega arith; groups = tt };
       ends = ends_few p 3 _ left there few;
-    })
-    (λ value after parts width e'. found_sync whole p v0 v1 v2 v3 value after w2 width (behind (free value) after left parts) e')
+    }) (λ value after parts width e'. found_sync whole p v0 v1 v2 v3 value after w2 width (behind (free value) after left parts) e')
 
 found_sid : (whole : List ℕ) (p : ℕ) (v0 : ℕ) (v1 : ℕ) (v2 : List ℕ) (rest : List ℕ) → length v2 ≡ 6
     → Left whole (λ fs. free (octet v0) ∷ unless (nat_lt 1 v1) (octet v1) ∷ free v2 ∷ fs) rest
@@ -130,11 +122,9 @@ found_address whole p v0 v1 rest left e =
       s = source_of v0 v1 (filled 6 rest) 0 (zeros 3);
       widths = record { address = length-filled 6 rest few; broadcast_id = length-zeros 3; bad_code = refl; few = omega arith; groups = tt };
       ends = ends_few p 6 _ left there few;
-    })
-    (λ value after parts width e'. found_sid whole p v0 v1 value after width (behind (free value) after left parts) e')
+    }) (λ value after parts width e'. found_sid whole p v0 v1 value after width (behind (free value) after left parts) e')
 
-found_kind : (whole : List ℕ) (p : ℕ) (v0 : ℕ) (rest : List ℕ)
-    → Left whole (λ fs. free (octet v0) ∷ fs) rest
+found_kind : (whole : List ℕ) (p : ℕ) (v0 : ℕ) (rest : List ℕ) → Left whole (λ fs. free (octet v0) ∷ fs) rest
     → (from_kind whole v0 rest >>= λ who. from_sync whole who.0 who.1) ≡ Err p → EndsInHead whole p
 found_kind whole p v0 rest left e =
     find_octet whole rest p (λ x. from_address whole v0 x.0 x.1 >>= λ who. from_sync whole who.0 who.1) (sym (assoc (place_in whole rest) (octet_in rest)
@@ -143,11 +133,9 @@ found_kind whole p v0 rest left e =
       s = source_of v0 0 (zeros 6) 0 (zeros 3);
       widths = record { address = length-zeros 6; broadcast_id = length-zeros 3; bad_code = refl; few = omega arith; groups = tt };
       ends = ends_before p (unless (nat_lt 1 0) (octet 0)) _ left there refl empty;
-    })
-    (λ value after parts e'. found_address whole p v0 value after (behind (unless (nat_lt 1 value) (octet value)) after left parts) e')
+    }) (λ value after parts e'. found_address whole p v0 value after (behind (unless (nat_lt 1 value) (octet value)) after left parts) e')
 
-found_source : (whole : List ℕ) (p : ℕ) (rest : List ℕ)
-    → Left whole (λ fs. fs) rest
+found_source : (whole : List ℕ) (p : ℕ) (rest : List ℕ) → Left whole (λ fs. fs) rest
     → (from_source whole rest >>= λ who. from_sync whole who.0 who.1) ≡ Err p → EndsInHead whole p
 found_source whole p rest left e =
     find_octet whole rest p (λ x. from_kind whole x.0 x.1 >>= λ who. from_sync whole who.0 who.1) (sym (assoc (place_in whole rest) (octet_in rest)
@@ -156,8 +144,7 @@ found_source whole p rest left e =
       s = source_of 0 0 (zeros 6) 0 (zeros 3);
       widths = record { address = length-zeros 6; broadcast_id = length-zeros 3; bad_code = refl; few = omega arith; groups = tt };
       ends = ends_before p (free (octet 0)) _ left there refl empty;
-    })
-    (λ value after parts e'. found_kind whole p value after (behind (free (octet value)) after left parts) e')
+    }) (λ value after parts e'. found_kind whole p value after (behind (free (octet value)) after left parts) e')
 
 pub found_head : (whole : List ℕ) (p : ℕ) → head_in whole ≡ Err p → EndsInHead whole p
 found_head whole p e =

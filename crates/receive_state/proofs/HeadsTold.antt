@@ -44,8 +44,7 @@ told_enc whole s p w r q le at ends =
     told_octet (IsCut whole p s) whole r s.encryption (unless (nat_lt 3 s.encryption) (octet s.encryption)) _ p q _ refl le at ends (inl refl) (told_code whole s p w)
 
 told_sync : (whole : List ℕ) (s : StateFields) (p : ℕ) → FieldsFit s → (r : List ℕ) (q : ℕ) → length r ≤ length whole → p ≡ place_in whole r + q
-    → EndsIn q (sync_on s) r
-    → IsCut whole p s (from_sync whole (source_only s) r)
+    → EndsIn q (sync_on s) r → IsCut whole p s (from_sync whole (source_only s) r)
 told_sync whole s p w r q le at ends =
     told_octet (IsCut whole p s) whole r s.pa_sync_state (unless (nat_lt 4 s.pa_sync_state) (octet s.pa_sync_state)) _ p q _ refl le at ends (inl refl) (told_enc whole s p w)
 
@@ -83,8 +82,7 @@ told_kind whole s p w r q le at ends =
 
 told_source : (whole : List ℕ) (s : StateFields) (p : ℕ) → FieldsFit s → (r : List ℕ) (q : ℕ) → length r ≤ length whole → p ≡ place_in whole r + q
     → EndsIn q (free (octet s.source_id) ∷ unless (nat_lt 1 s.address_type) (octet s.address_type) ∷ free s.address ∷ unless (nat_lt 15 s.sid) (octet s.sid)
-    ∷ free s.broadcast_id ∷ sync_on s) r
-    → IsCut whole p s (from_source whole r >>= λ who. from_sync whole who.0 who.1)
+    ∷ free s.broadcast_id ∷ sync_on s) r → IsCut whole p s (from_source whole r >>= λ who. from_sync whole who.0 who.1)
 told_source whole s p w r q le at ends =
     subst (IsCut whole p s) (sym (assoc (place_in whole r) (octet_in r) (λ (x : ℕ × List ℕ). from_kind whole x.0 x.1) (λ (y : StateFields × List ℕ). from_sync whole y.0 y.1)))
     (told_octet (IsCut whole p s) whole r s.source_id (free (octet s.source_id)) _ p q (λ x. from_kind whole x.0 x.1 >>= λ y. from_sync whole y.0 y.1)

@@ -55,8 +55,7 @@ nested : (s : StateFields) (count : ℕ) (tail rest : List ℕ) → before s cou
 nested s count tail rest = simp append_assoc
 
 pub whole_of : (whole : List ℕ) (s : StateFields) (count : ℕ) (tail : List ℕ) (groups : List Subgroup) (rest : List ℕ) → IsOctets whole → head_in whole ≡ Ok (s, count, tail)
-    → subgroups_in count tail ≡ Some (groups, rest)
-    → IsFollowed (record s { groups = groups }) whole rest
+    → subgroups_in count tail ≡ Some (groups, rest) → IsFollowed (record s { groups = groups }) whole rest
 whole_of whole s count tail groups rest h e g =
     let t = head_takes whole (s, count, tail) h e in
     let u = subgroups_take count tail (groups, rest) t.octets g in
@@ -100,8 +99,7 @@ end_cases whole s count tail state (Ok rest) h e r j =
     let values = reserved_none (fields all) n.0 in
     let back : fields_of (state_from all) ≡ all = fields_back all (known_encryption all values) w.widths.bad_code in
     let parts : whole ≡ laid (fields all) = w.parts ∙ (ap (λ (x : List ℕ). laid (fields all) ++ x) n.1 ∙ append-nil (laid (fields all))) in
-    subst (λ (x : ReceiveState). IsEncoded x whole) a.0
-    (grind (arith, fields, laid))
+    subst (λ (x : ReceiveState). IsEncoded x whole) a.0 (grind (arith, fields, laid))
 
 head_cases : (whole : List ℕ) (state : ReceiveState) (read : Result (StateFields × ℕ × List ℕ) ℕ) → IsOctets whole → head_in whole ≡ read → judged whole read ≡ Ok state → IsEncoded state whole
 head_cases whole state (Err place) h e j = absurd cc

@@ -67,8 +67,7 @@ offered_more to number waited waits rest dropped more old source new unit name a
   flushes = record {
     offers = record {
       keeps = keeps;
-      stands = λ airs second is meet.
-          subst (λ s. SecondIs s new) (sym (after_more airs to at.offered unit second))
+      stands = λ airs second is meet. subst (λ s. SecondIs s new) (sym (after_more airs to at.offered unit second))
           (one airs (after_offers airs to at.offered second) (at.flushes.offers.stands airs second is meet) (meet at.offered)).1;
     };
     drops = λ airs second is meet.

@@ -106,8 +106,7 @@ module _ (reads : Reads) (starts : List Account) where
                 (refl, refl),
                 (
                   refl,
-                  first_sink (length starts) true
-                      (le-leb (length starts) 0 (omega (arith, is))),
+                  first_sink (length starts) true (le-leb (length starts) 0 (omega (arith, is))),
                 ),
               ),
             ) ∙ ap (λ n. refused (n + 3) NoOutlet) (sym is)
@@ -119,8 +118,7 @@ module _ (reads : Reads) (starts : List Account) where
                 (
                   (
                     refl,
-                    first_sink (length starts) false
-                        (lt-leb (length starts) 0 (omega (arith, is))),
+                    first_sink (length starts) false (lt-leb (length starts) 0 (omega (arith, is))),
                   ),
                   (refl, second_sink (length starts) true (le-leb (length starts) 1 (omega (arith, is)))),
                 ),

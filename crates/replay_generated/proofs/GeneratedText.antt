@@ -118,8 +118,7 @@ events_short state x (suc count) =
       unit_short,
       air_short,
       drawn_small,
-      unended
-          (codes "event") refl,
+      unended (codes "event") refl,
     )
 
 short_append : (most : ℕ) (xs ys : List (List ℕ)) → AllShort most xs → AllShort most ys → AllShort most (xs ++ ys)

@@ -68,15 +68,13 @@ units_rest starts history (line ∷ lines) = by (refusal_at starts history line)
   where
     by : (why : Option Refusal) → (rest : List SinkUnit)
         × (handed_up airs_of (steps_of airs_of (accepted_of (rules_of airs_of starts) (line ∷ history) lines))
-        ≡ handed_up airs_of (steps_of airs_of (line ∷ history)) ++ rest)
-        → (rest : List SinkUnit)
+        ≡ handed_up airs_of (steps_of airs_of (line ∷ history)) ++ rest) → (rest : List SinkUnit)
         × (handed_up airs_of (steps_of airs_of (accepted_unless history why (accepted_of (rules_of airs_of starts) (line ∷ history) lines)))
         ≡ handed_up airs_of (steps_of airs_of history) ++ rest)
     by (Some reason) more = ([], sym (append-nil (handed_up airs_of (steps_of airs_of history))))
     by None more = (
       handed_on airs_of history line ++ more.0,
-      more.1 ∙ ap (λ us. us ++ more.0) (handed_line airs_of history line)
-          ∙ simp append_assoc,
+      more.1 ∙ ap (λ us. us ++ more.0) (handed_line airs_of history line) ∙ simp append_assoc,
     )
 
 -- the units of an accepted line come behind those of the history
@@ -87,8 +85,7 @@ pub units_line : (starts : List Account) (history : List TextLine) (line : TextL
 units_line starts history line later accepted none =
     let more = units_rest starts (line ∷ history) later in (
       more.0,
-      units_then starts history accepted (line ∷ later)
-          ∙ rw none (more.1 ∙ ap (λ us. us ++ more.0) (handed_line airs_of history line)),
+      units_then starts history accepted (line ∷ later) ∙ rw none (more.1 ∙ ap (λ us. us ++ more.0) (handed_line airs_of history line)),
     )
 
 -- ---- what the boxes took

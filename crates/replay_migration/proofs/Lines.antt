@@ -63,10 +63,8 @@ module _ (text piece : List ℕ) (room line : ℕ) (limit : length text + room �
       let prefix = text ++ take room piece in
       let rest = drop room piece ++ more in
       let whole : (text ++ piece) ++ more ≡ prefix ++ rest =
-      append_assoc text piece more
-      ∙ ap (λ l. text ++ (l ++ more)) (sym (take-append-drop room piece))
-      ∙ ap (λ l. text ++ l) (append_assoc (take room piece) (drop room piece) more)
-      ∙ sym (append_assoc text (take room piece) rest) in
+      append_assoc text piece more ∙ ap (λ l. text ++ (l ++ more)) (sym (take-append-drop room piece))
+      ∙ ap (λ l. text ++ l) (append_assoc (take room piece) (drop room piece) more) ∙ sym (append_assoc text (take room piece) rest) in
       let r = runs_on e 0 [] prefix rest (omega (arith, prefix_long)) in
       let some_rest : 0 < length rest = omega (arith, length-append (drop room piece) more, length-drop room piece) in
       record {

@@ -90,8 +90,7 @@ or_prefix a b rest reason e = grind arith
 -- the refusals of a step that brings something to a sink in the place of a PDU
 pub record Brings (n : ℕ) (made : Step) : Type 0 where
   pub minds : minds_relays made ≡ false
-  pub refusal : (boxes version : ℕ) (steps : List Step) → stage_of steps ≡ running version
-      → phase_refusal airs_of boxes steps made
+  pub refusal : (boxes version : ℕ) (steps : List Step) → stage_of steps ≡ running version → phase_refusal airs_of boxes steps made
       ≡ option_or (refuse_if (not (is_heard (chosen_steps steps))) Order) (option_or (no_sink n steps) (option_or (source_refusal airs_of version (chosen_steps steps) made) None))
 
 pub hear_brings : (n back bis subevent : ℕ) → Brings n (Hear n back bis subevent)

@@ -172,8 +172,7 @@ first_fails steps past event text told before after f =
       is_valid = f.fails.is_valid;
       lines = f.fails.lines ∙ append_assoc text lines (unit_lines d) ∙ ap (λ l. text ++ l) (sym is);
       behind = (unit_lines (f.fails.unit ∷ f.fails.rest) ++ dropped) ++ other_lines;
-      prefix = range_about (λ n. lines_at steps past n event) number f.within
-          ∙ ap (λ us. (lines ++ (us ++ dropped)) ++ other_lines)
+      prefix = range_about (λ n. lines_at steps past n event) number f.within ∙ ap (λ us. (lines ++ (us ++ dropped)) ++ other_lines)
           (ap unit_lines f.fails.split ∙ lines_append d (f.fails.unit ∷ f.fails.rest))
           ∙ regroup_lines lines (unit_lines d) (unit_lines (f.fails.unit ∷ f.fails.rest)) dropped other_lines
           ∙ ap (λ l. l ++ ((unit_lines (f.fails.unit ∷ f.fails.rest) ++ dropped) ++ other_lines)) (sym is);

@@ -140,10 +140,8 @@ answers_of steps past event n below =
     let three = answers_other steps past event n (n + 1) (7 - n) (after_offers airs_of own then)
     (λ m least less same. omega (arith, least, same)) in
     ap (λ all. filter (of_sink n) (answered airs_of all steps))
-    (range_about (asks steps past event) n below ∙ append_assoc before own later)
-    ∙ ap (filter (of_sink n))
-    (answered_append before (own ++ later) steps ∙ ap (λ l. answered airs_of before steps ++ l) (answered_append own later then))
-    ∙ grind (
+    (range_about (asks steps past event) n below ∙ append_assoc before own later) ∙ ap (filter (of_sink n))
+    (answered_append before (own ++ later) steps ∙ ap (λ l. answered airs_of before steps ++ l) (answered_append own later then)) ∙ grind (
       arith,
       filter-append (of_sink n) (answered airs_of before steps)
           (answered airs_of own then ++ answered airs_of later (after_offers airs_of own then)),

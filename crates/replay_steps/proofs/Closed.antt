@@ -13,8 +13,7 @@ components_left steps past source machine components = grind arith
 
 -- a close of source 0
 pub first_did : (steps : List Step) (past : Histories) (closed : Option ℕ) (new : Machine) (text told : List ℕ)
-    (before after : List Account) (r : Result (Unit {0}) Stop)
-    → Closes steps past 0 closed new text told before after r
+    (before after : List Account) (r : Result (Unit {0}) Stop) → Closes steps past 0 closed new text told before after r
     → Did (units_closed past closed) (answered airs_of (offers_closed steps past closed) steps) (lines_closed steps past closed)
     (ComponentsStand (after_offers airs_of (offers_closed steps past closed) steps) (with_close 0 closed past) new) text told before after r
 first_did steps past closed new text told before after r m = grind (arith, components_left, append-nil, first_fails)
@@ -37,8 +36,7 @@ hands_did first us answers stands text mid told before between after (Err Memory
 pub second_did : (steps : List Step) (past : Histories) (closed : Option ℕ) (first : List SinkUnit) (answers : List Answered)
     (new : Machine) (text mid told : List ℕ)
     (before between after : List Account) (r : Result (Unit {0}) Stop) → AreFrom 0 first → mid ≡ text ++ first_lines first answers
-    → between ≡ accounts_after before first
-    → Closes steps past 1 closed new mid told between after r
+    → between ≡ accounts_after before first → Closes steps past 1 closed new mid told between after r
     → Did (first ++ closings_at 1 closed past) answers (first_lines first answers ++ unit_lines (closings_at 1 closed past))
     (ComponentsStand steps (with_close 1 closed past) new) text told before after r
 unfolding sink_numbers

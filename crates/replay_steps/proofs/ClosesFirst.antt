@@ -152,11 +152,9 @@ sinks_behind made tail steps offers closed sinks closes is open_is stands =
     (grind (arith, with_close, open_event, chosen_steps, histories_of, stands_same, ticked_if, is_of))
 
 pub first_stands : (made : Step) (tail : List Step → List ℕ) (steps : List Step) (closed : Option ℕ) (old new : Machine)
-    → ClosesOpen made tail → Stands steps old
-    → chosen_of steps ≡ 0 → closed ≡ open_event (chosen_steps steps) → new.stage ≡ old.stage
+    → ClosesOpen made tail → Stands steps old → chosen_of steps ≡ 0 → closed ≡ open_event (chosen_steps steps) → new.stage ≡ old.stage
     → ComponentsStand (after_offers airs_of (offers_closed (made ∷ steps) (histories_of steps) closed) (made ∷ steps))
-    (with_close 0 closed (histories_of steps)) new
-    → Stands (made ∷ with_relayed_units airs_of steps made) new
+    (with_close 0 closed (histories_of steps)) new → Stands (made ∷ with_relayed_units airs_of steps made) new
 first_stands made tail steps closed old new closes stands is open_is stage components =
     let own : closed ≡ open_event (steps_of_source 0 steps) = open_first steps closed is open_is in
     let offers : List Offer = offers_at airs_of steps in

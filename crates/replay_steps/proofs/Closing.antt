@@ -94,8 +94,7 @@ closed_wants made starts steps new text told before after all = inr (
 -- ---- the sources took the step, and then the event is closed
 
 module _ {made : Step} {tail : List Step → List ℕ} (closes : ClosesOpen made tail) {steps : List Step} {old : Machine}
-    (stands : Stands steps old)
-    {taken : Sources} (sources : SourcesStand (made ∷ steps) taken) where
+    (stands : Stands steps old) {taken : Sources} (sources : SourcesStand (made ∷ steps) taken) where
   components_then : ComponentsStand (made ∷ steps) (histories_of steps) (record old { sources = taken })
   components_then =
       record { sources = sources; sinks = stands.sinks; relays = relays_stay steps made old.relays closes.minds stands.relays }
@@ -103,23 +102,20 @@ module _ {made : Step} {tail : List Step → List ℕ} (closes : ClosesOpen made
   -- the boxes that no sink took
   pub others_stay : {A : Type 0} (boxes after : List A)
       → ((late : List Step) (past : Histories) → ComponentsStand late past (record old { sources = taken })
-      → UnassignedSame past boxes after)
-      → (box : ℕ) → sinks_made steps ≤ box → slice_get after box ≡ slice_get boxes box
+      → UnassignedSame past boxes after) → (box : ℕ) → sinks_made steps ≤ box → slice_get after box ≡ slice_get boxes box
   others_stay boxes after others = unassigned_in steps boxes after (others (made ∷ steps) (histories_of steps) components_then)
 
   module _ {version : ℕ} (e : stage_of steps ≡ running version)
       (passes : fault_of version steps made ≡ None) {source : ℕ} {closed : Option ℕ}
       (opened : is_over (chosen_steps steps) ≡ false → closed ≡ open_event (chosen_steps steps)) (chosen : source ≡ chosen_of steps)
-      (within : source < 2)
-      (starts : List Account) (new : Machine) (text told : List ℕ) (before after : List Account) where
+      (within : source < 2) (starts : List Account) (new : Machine) (text told : List ℕ) (before after : List Account) where
     pub closed_by : new.stage ≡ old.stage
         → ((late : List Step) (past : Histories) → ComponentsStand late past (record old { sources = taken })
         → Closes late past source closed new text told before after (Ok tt)) → Closed starts steps made new text told before after
     closed_by stage m = record {
       passes = fault_line made tail (length starts) version steps closes e ∙ passes;
       did = close_did made tail closes steps closed (opened (not_over (chosen_of steps) version steps e)) source old new text told
-          before after (Ok tt) stands chosen within
-          stage (m (made ∷ steps) (histories_of steps) components_then);
+          before after (Ok tt) stands chosen within stage (m (made ∷ steps) (histories_of steps) components_then);
     }
 
     pub stops_by : (there : Machine) (stop : Stop) → new.stage ≡ old.stage
@@ -131,8 +127,7 @@ module _ {made : Step} {tail : List Step → List ℕ} (closes : ClosesOpen made
         (fault_line made tail (length starts) version steps closes e ∙ passes)
         (sym (append-nil (handed_by airs_of steps made))) refl (closes.output starts steps)
         (close_did made tail closes steps closed (opened (not_over (chosen_of steps) version steps e)) source old new text told before after
-        (Err stop) stands chosen within
-        stage (m (made ∷ steps) (histories_of steps) components_then))
+        (Err stop) stands chosen within stage (m (made ∷ steps) (histories_of steps) components_then))
 
     -- a step that prints nothing behind the lines of the close
     pub closes_meet : (r : Result (Unit {0}) Stop) → tail steps ≡ [] → new.stage ≡ old.stage

@@ -112,10 +112,8 @@ both_did steps first second mid new text told last before between after r opens 
     let stands : Type 0 = ComponentsStand (after_relays steps first) (with_close 1 second left) new in
     subst (λ us. Did (ones ++ us) answers (first_lines ones answers ++ unit_lines us) stands text last before after r) (second_units steps first second opens)
     (second_did (after_relays steps first) left second ones answers new text told last before between after r
-    (from_first steps first second opens)
-    (one.2 ∙ ap (λ l. text ++ l) (sym (end_lines steps first second opens)))
-    (one.3 ∙ ap (accounts_after before) (sym (units_are steps first opens.one)))
-    (closes (after_relays steps first) left one.1))
+    (from_first steps first second opens) (one.2 ∙ ap (λ l. text ++ l) (sym (end_lines steps first second opens)))
+    (one.3 ∙ ap (accounts_after before) (sym (units_are steps first opens.one))) (closes (after_relays steps first) left one.1))
 
 pub second_stops : (starts : List Account) (version : ℕ) (steps : List Step) (first second : Option ℕ) (new : Machine) (text last : List ℕ)
     (before after : List Account) (stop : Stop)
@@ -126,8 +124,7 @@ second_stops starts version steps first second new text last before after stop e
 
 -- memory ran out as the sums were put
 pub sums_stop : (starts : List Account) (version : ℕ) (steps : List Step) (first second : Option ℕ) (new : Machine) (text told : List ℕ)
-    (before after : List Account)
-    → stage_of steps ≡ running version → BothDid steps first second new text told before after (Ok tt)
+    (before after : List Account) → stage_of steps ≡ running version → BothDid steps first second new text told before after (Ok tt)
     → Meets starts steps End new text told before after (Err Memory)
 sums_stop starts version steps first second new text told before after e d = grind (arith, end_passes, append-nil)
 

@@ -89,8 +89,7 @@ brought steps made old new stands nothing on stage same minds held heard = recor
 pub sources_refuse : (boxes version : ℕ) (steps : List Step) (made : Step) (old new : Machine) (stop : Stop)
     → phase_line airs_of boxes steps made ≡ fault_of version steps made
     → Stands steps old → new.stage ≡ old.stage → new.sinks ≡ old.sinks → new.relays ≡ old.relays
-    → sources.Answers version steps made new.sources (Err stop)
-    → Quiet boxes steps made new (Err stop)
+    → sources.Answers version steps made new.sources (Err stop) → Quiet boxes steps made new (Err stop)
 sources_refuse boxes version steps made old new stop is stands stage same held a = grind arith
 
 pub sources_meet : (boxes version : ℕ) (steps : List Step) (made : Step) (old new : Machine) (r : Result (Unit {0}) Stop) → GoesOn made
@@ -144,8 +143,7 @@ make_meets boxes version n streams slots horizon mtu steps old new r stands e is
     let next : Histories = with_sink n (made_with streams slots horizon mtu) (histories_of steps) in
     sinks_meet boxes steps (Sink n streams slots mtu) fault next old new r stands (rw e (or_none fault)) (sink_says n streams slots mtu) refl
     (ap (λ h. with_sink n (made_with streams slots h mtu) (histories_of steps))
-    (ap horizon_in (version_said steps ∙ ap version_at e) ∙ sym is)) stage same refl held
-    (grind arith)
+    (ap horizon_in (version_said steps ∙ ap version_at e) ∙ sym is)) stage same refl held (grind arith)
 
 -- ---- tuned
 

@@ -11,9 +11,7 @@ keep_again n xs ys =
     let k = length xs - n in
     let prefix : drop k xs ++ ys ≡ drop k (xs ++ ys) = sym (drop-append-le k xs ys (omega arith)) in
     let count : k + (length (drop k (xs ++ ys)) - n) ≡ length (xs ++ ys) - n = omega (arith, length-drop k (xs ++ ys), length-append xs ys) in
-    ap (keep_last n) prefix
-    ∙ drop-drop (length (drop k (xs ++ ys)) - n) k (xs ++ ys)
-    ∙ ap (λ i. drop i (xs ++ ys)) count
+    ap (keep_last n) prefix ∙ drop-drop (length (drop k (xs ++ ys)) - n) k (xs ++ ys) ∙ ap (λ i. drop i (xs ++ ys)) count
 
 kept_step : (greatest : ℕ) (unit : List ℕ) (units : List (List ℕ)) (kept : Option (List (List ℕ)))
     → kept_with greatest units (kept_after greatest unit kept) ≡ kept_with greatest (unit ∷ units) kept
@@ -39,16 +37,10 @@ with_none account =
 with_more : (account : Account) (unit : List ℕ) (units : List (List ℕ)) → with_units (with_unit unit account) units ≡ with_units account (unit ∷ units)
 with_more account unit units =
     sums_same
-    account
-    (account.units + 1 + length units)
-    (account.units + suc (length units))
-    (account.octets + length unit + sum (map length units))
-    (account.octets + sum (map length (unit ∷ units)))
-    (kept_with account.greatest units (kept_after account.greatest unit account.kept))
-    (kept_with account.greatest (unit ∷ units) account.kept)
-    (omega arith)
-    (omega (arith, sum_by-cons (λ x. x) (length unit) (map length units)))
-    (kept_step account.greatest unit units account.kept)
+    account (account.units + 1 + length units) (account.units + suc (length units)) (account.octets + length unit + sum (map length units))
+    (account.octets + sum (map length (unit ∷ units))) (kept_with account.greatest units (kept_after account.greatest unit account.kept))
+    (kept_with account.greatest (unit ∷ units) account.kept) (omega arith)
+    (omega (arith, sum_by-cons (λ x. x) (length unit) (map length units))) (kept_step account.greatest unit units account.kept)
 
 -- ---- the boxes
 

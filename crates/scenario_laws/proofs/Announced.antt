@@ -70,8 +70,7 @@ announced_tuning laws airs boxes n earlier made big_sync legal permits is =
       no_group,
       subgroups_of,
       (settled airs (chosen_steps earlier) legal_own),
-      (tellable airs
-          (chosen_steps earlier) legal_own),
+      (tellable airs (chosen_steps earlier) legal_own),
       (announced_on laws airs boxes n earlier made big_sync legal permits is),
     )
 
@@ -89,8 +88,7 @@ none_of test in_set (x ∷ xs) none = kept test x (filter in_set xs) (in_set x) 
 none_beyond : (num_bis which : ℕ) → which < 2 ^ num_bis → has_beyond num_bis which ≡ false
 unfolding has_beyond
 none_beyond num_bis which small =
-    none_of (λ bis. ltb num_bis bis) (is_in which) (range_with_len 1 31)
-    (λ bis in_set. elim (cases_Bool (ltb num_bis bis)) [
+    none_of (λ bis. ltb num_bis bis) (is_in which) (range_with_len 1 31) (λ bis in_set. elim (cases_Bool (ltb num_bis bis)) [
       | inl above ↦ absurd (grind (
         arith,
         pow-le-pow_right,

@@ -111,8 +111,7 @@ announced_moves laws airs boxes s n sink earlier next' legal permits more within
         let first_is : on.first ≡ next_in (chosen_steps earlier) = ap (λ (t : BigSync). t.first) (as_by_hand laws airs boxes n sink earlier put.big_sync legal permits put.brings).0 in
         subst (λ calls. Moves (mine_in s n earlier) (sink_calls airs n earlier) (next_in (steps_of_source s earlier)) [] (mine_in s n (Step.Announce sink ∷ earlier)) calls next') (sym put.calls_is)
         (subst (λ source. Moves (mine_in s n earlier) (sink_calls airs n earlier) (next_in (steps_of_source s earlier)) [] (is_of s source) (tune on ∷ sink_calls airs n earlier) next')
-        (sym put.source_is)
-        (grind (arith, chosen_of, sink_calls, next_in, steps_of_source, eqb-true)))
+        (sym put.source_is) (grind (arith, chosen_of, sink_calls, next_in, steps_of_source, eqb-true)))
   ]
 ]
 
@@ -164,10 +163,7 @@ closing_on : Announcing → (airs : Airs) (boxes s n : ℕ) (step : Step) (earli
     → Closing airs s n earlier → Closing airs s n (step ∷ earlier)
 closing_on laws airs boxes s n step earlier legal ungiven least on before =
     let now = moved laws airs boxes s n step earlier legal ungiven least before.within in
-    record {
-      rise = grind (arith, is_made, closed_since, closed_by, false≢true, map-append, climb_on);
-      within = now.within;
-    }
+    record { rise = grind (arith, is_made, closed_since, closed_by, false≢true, map-append, climb_on); within = now.within }
 
 pub closing : Announcing → (airs : Airs) (boxes s n : ℕ) (made : List Step) → Legal airs boxes made → given_since_made n made ≡ false → s ≤ 1 → Closing airs s n made
 closing laws airs boxes s n [] legal ungiven least = record { rise = omega arith; within = omega arith }

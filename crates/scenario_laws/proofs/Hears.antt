@@ -151,8 +151,7 @@ all_own laws airs setup whole laid tuning boxes s n bis (step ∷ earlier) sends
       let on : OnSource (steps_of_source s earlier) tuning = on_source laws airs boxes s n earlier tuning legal.0 before in
       let own_legal : Lawful airs (steps_of_source s earlier) = lawful airs boxes s earlier legal.0 in
       own_after airs laid tuning boxes s n bis step earlier (injected_since (is_tuned n) n earlier)
-      (permitted airs boxes earlier step legal.1) least before.source_is clean
-      (λ none. (assumption (
+      (permitted airs boxes earlier step legal.1) least before.source_is clean (λ none. (assumption (
         all_own laws airs setup whole laid tuning boxes s n bis earlier sends legal.0 shorter least before none,
         sends (steps_of_source s earlier) own_legal on.started shorter,
         bounds_in (steps_of_source s earlier) (settled airs (steps_of_source s earlier) own_legal) on.started,

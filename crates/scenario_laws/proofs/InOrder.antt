@@ -80,8 +80,7 @@ event_orders below airs meets boxes s n bis setup whole made ready event before 
           (units_of (stay_on tuning bis) (stream_calls (stay_on tuning bis) (sink_calls airs n made)) (tuning.first + closes tuning (sink_calls airs n made))) [] =
           tick_hands below event (sink_calls airs n made) tuning bis (ap (λ (i : BigInfo). i.framing)
           (on_whole below.announcing airs boxes s n setup whole made ready.legal_is ready.ungiven ready.within (ap
-          (is_of s) its ∙ eq-eqb s s refl) tuning is).info ∙ ready.plain) is
-          (is_member tuning.which bis ready.least ready.greatest taken)
+          (is_of s) its ∙ eq-eqb s s refl) tuning is).info ∙ ready.plain) is (is_member tuning.which bis ready.least ready.greatest taken)
           ∙ ap (λ o. cond (leb o event) (units_of (stay_on tuning bis) (stream_calls (stay_on tuning bis) (sink_calls airs n made)) o) []) (below.one_open tuning (sink_calls airs n made) bis) in
           elim (cases_Bool (leb (tuning.first + closes tuning (sink_calls airs n made)) event)) [
             | inr not_over ↦ grind (arith, ordered_same, sink_calls, of_stream, handed_at, cond, stay_on, stream_calls)

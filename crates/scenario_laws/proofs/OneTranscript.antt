@@ -25,10 +25,7 @@ alike airs others both boxes (offer ∷ offers) made legal runs =
     let rest : Alike airs others offers next = alike airs others both boxes offers next
     (unless_legal airs boxes (dropped_for airs offer made) offer made legal runs refl)
     (runs_still made next (left_by_offers airs (offer ∷ []) made).stage runs) in
-    record {
-      steps = rest.steps ∙ ap (after_offers others offers) same;
-      answers = grind (arith, dropped_for);
-    }
+    record { steps = rest.steps ∙ ap (after_offers others offers) same; answers = grind (arith, dropped_for) }
 
 -- ---- relayed units before a step
 

@@ -62,8 +62,7 @@ units_in_slots setup tuning bis calls event on least =
     let is : (bis_of (handed_of bis (time_of (stay_on tuning bis) event slot) (unit_of tuning.info.max_sdu (map (heard_in
     (stay_on tuning bis) calls) (numbers_of (stay_on tuning bis) event slot)))) ≡ bis) × (time_in (handed_of bis (time_of
     (stay_on tuning bis) event slot) (unit_of tuning.info.max_sdu (map (heard_in (stay_on tuning bis) calls) (numbers_of
-    (stay_on tuning bis) event slot)))) ≡ (time_of (stay_on tuning bis) event slot)) =
-    grind arith in
+    (stay_on tuning bis) event slot)))) ≡ (time_of (stay_on tuning bis) event slot)) = grind arith in
     (is.0, is.1 ∙ slot_time_is setup tuning bis event slot on least))
 
 one_slots : (setup : Setup) (bis : ℕ) (closed : Closed) → is_in closed.which bis ≡ true

@@ -351,8 +351,7 @@ starts_in_order below airs boxes s n bis made legal is_framed source_within sink
       over = over below airs boxes s n bis made source_within sink_within least greatest is_framed;
       legal = λ part fine. fine.legal_is;
       ungiven = λ part fine. fine.ungiven;
-      before = λ step earlier still fine.
-          (search (within_before, rest_not, is_made, is_given, given_since_made, went_on));
+      before = λ step earlier still fine. (search (within_before, rest_not, is_made, is_given, given_since_made, went_on));
       source_within = source_within;
       sink_within = sink_within;
     } in

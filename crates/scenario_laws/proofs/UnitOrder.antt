@@ -84,8 +84,7 @@ one_entry setup whole tuning bis air n sent entry calls some on opens numbered i
     let below : event < opened (stay_on tuning bis) calls =
     event_below event (setup.first * setup.info.bn + one.first) (opened (stay_on tuning bis) calls) setup.info.bn (omega (arith, product, is_of.timed.least)) closed in
     let parts : (bis_of entry ≡ bis) × (time_in entry ≡ (time_of (stay_on tuning bis)
-    ((setup.first * setup.info.bn + one.first) / tuning.info.bn) one.offset)) =
-    grind (arith, bis_of, time_in) in
+    ((setup.first * setup.info.bn + one.first) / tuning.info.bn) one.offset)) = grind (arith, bis_of, time_in) in
     record {
       unit = unit;
       sent = sent;
@@ -226,8 +225,7 @@ known_units below airs meets own bis legal started is_framed least = elim (cases
         ns = numbered.0;
         units = units.0;
         numbered = numbered_each (IsSent (setup_of own) (source_calls own) bis) (IsInAir (setup_of own) (source_calls own) bis (air_in airs own bis)) 0 numbered.0 units.0
-            (grind (arith, in_air, setup_of, source_calls, air_in, same_air))
-            (grind (arith, setup_of, source_calls, numbered_on));
+            (grind (arith, in_air, setup_of, source_calls, air_in, same_air)) (grind (arith, setup_of, source_calls, numbered_on));
         facts = λ all_started below_num. units.1;
       }
   | inr past ↦ record { ns = []; units = []; numbered = tt; facts = λ all_started below_num. absurd (omega (arith, past, below_num)) }

@@ -57,8 +57,7 @@ lawful airs boxes s (step ∷ earlier) legal =
     grind (
       arith,
       (lawful airs boxes s earlier legal.0),
-      (its_step airs boxes s earlier step
-          (permitted airs boxes earlier step legal.1) legal.2),
+      (its_step airs boxes s earlier step (permitted airs boxes earlier step legal.1) legal.2),
     )
 
 pub horizon_greatest : (second : Bool) → cond second 31 15 ≤ 31

@@ -88,8 +88,7 @@ serves link write history d served_by old new its is_on first t stood settings =
     let h : Here link history old = here link history d old its is_on in
     has_stepped (written write) (served link) history d served_by old new refl tt
     (ap (option_map written) (first_write link history old h write first)) tt its stood settings
-    (taken_terms (assistants.sent ∷ []) link h.on old new h.there t)
-    (λ other. elim (cases_eq other link) [
+    (taken_terms (assistants.sent ∷ []) link h.on old new h.there t) (λ other. elim (cases_eq other link) [
       | inl e ↦ subst (λ n. Left n (link_at new n)) (sym e) (subst (Left link) (sym (taken_there (assistants.sent ∷ []) link h.on old new h.there t)) (on_some is_on
           (subst (λ writes. LinkHolds history.made.setup.slots history.made.mtu (acts_of history.made.setup history.made.mtu link history.calls_made) writes (record h.on { assistant = t.after }))
           (sym (writes_one link history.calls_made))

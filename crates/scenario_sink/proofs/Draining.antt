@@ -206,5 +206,4 @@ drain_goes history link label text first mid last one two three serves tells rea
     let off = all_off made link (serving label made link) (length (writes_waiting link calls_made)) calls_made in
     let off_told = all_off made link (telling label made link) (length (notices_waiting made.setup made.mtu link served)) served in
     let off_read = all_off made link (reading label made link) (length (reads_waiting made.setup made.mtu link told)) told in
-    subst (λ lines. Goes history all lines text last three) (sym (append_assoc serve_them tell_them read_them))
-    (search (goes_then, stayed))
+    subst (λ lines. Goes history all lines text last three) (sym (append_assoc serve_them tell_them read_them)) (search (goes_then, stayed))

@@ -84,8 +84,7 @@ waiting_is setup taken d stands = subst (λ s. d.scan.waiting ≡ waiting s (mac
 pub has_stepped : (step : Step) (call : Call) (history : SinkHistory) (old new : Halves) (links next : Links) → is_told step ≡ 0 → IsStep call → step_by call history.calls_made ≡ Some step
     → IsAsked call → (its : Stands history old links) → StandsFor history.made.setup (machine.control step ∷ its.took.taken) new → settings_of new ≡ settings_of old → SameTerms next links
     → ((link : ℕ) → OnLink history.made.setup.slots history.made.mtu (is_joined link history.calls_made) (acts_of history.made.setup history.made.mtu link history.calls_made) (writes_waiting link (call ∷ history.calls_made))
-    (link_at next link))
-    → HasStepped call history new next
+    (link_at next link)) → HasStepped call history new next
 has_stepped step call history old new links next quiet is_step by are its stood settings terms each =
     let setup : Setup = history.made.setup in
     let taken : List machine.Call = its.took.taken in

@@ -14,8 +14,7 @@ or_assoc : (a b c : Bool) → ((a || b) || c) ≡ (a || (b || c))
 or_assoc a b c = grind arith
 
 -- ranges after another
-any_append : (num_bis which : ℕ) (xs ys : List ℕ)
-    → list_any (λ bis. nat_lt num_bis bis) (filter (is_in which) (xs ++ ys))
+any_append : (num_bis which : ℕ) (xs ys : List ℕ) → list_any (λ bis. nat_lt num_bis bis) (filter (is_in which) (xs ++ ys))
     ≡ (list_any (λ bis. nat_lt num_bis bis) (filter (is_in which) xs) || list_any (λ bis. nat_lt num_bis bis) (filter (is_in which) ys))
 any_append num_bis which [] ys = refl
 any_append num_bis which (x ∷ xs) ys =

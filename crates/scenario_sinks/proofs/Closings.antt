@@ -18,8 +18,7 @@ unfolding sink_numbers
 closings_split source event past n k e =
     let each : ℕ → List SinkUnit = λ i. closing_by source event i (past.received i) (past.sources i) (past.boxes i) in
     let f : 0 + n ≡ n = omega arith in
-    ap (λ m. flat_map each (range_with_len 0 m)) (sym e)
-    ∙ ap (flat_map each) (range_append 0 n k)
+    ap (λ m. flat_map each (range_with_len 0 m)) (sym e) ∙ ap (flat_map each) (range_append 0 n k)
     ∙ flat_map-append each (range_with_len 0 n) (range_with_len (0 + n) k)
     ∙ ap (λ m. flat_map each (range_with_len 0 n) ++ flat_map each (range_with_len m k)) f
 
@@ -135,10 +134,7 @@ sink_hands box made own calls_made received owner event sink new units gathered 
     let own_units : closing_by owner.source event owner.sink received own box ≡ units_for owner (handed_at received event) = rw (mine, box_at) refl in
     let here : EntryIs box made own calls_made (ticked_if (is_of owner.source own) (Some event) received) (Some (Some new)) = grind (arith, entry_of, tick) in
     let P : List SinkUnit → Type 0 = λ us. Hands us text told before after r in
-    record {
-      hands = subst P (ap (units_for owner) e ∙ sym own_units) hands;
-      is_held = grind (arith, on_ok_weaker, handed_back);
-    }
+    record { hands = subst P (ap (units_for owner) e ∙ sym own_units) hands; is_held = grind (arith, on_ok_weaker, handed_back) }
 
 -- a sink of another source
 pub sink_left : (box : Option ℕ) (made : Option Settings) (own : Option ℕ) (calls_made : List links.Call) (received : List Call)
@@ -170,10 +166,7 @@ pub sink_rests_held : (box : Option ℕ) (made : Option Settings) (own : Option 
     → calls_of gathered ≡ [] → SinkHands box made own calls_made received n source event entry gathered text text before before (Ok tt)
 sink_rests_held box made own calls_made received n source event entry gathered text before is other empty =
     let rests = sink_rests box made own calls_made received n source event entry gathered text before is other empty in
-    record {
-      hands = rests.hands;
-      is_held = grind (arith, map, handed_of, no_units);
-    }
+    record { hands = rests.hands; is_held = grind (arith, map, handed_of, no_units) }
 
 pub not_both : (b : Bool) → b ≡ true → b ≡ false → ⊥
 not_both b is other = cc (sym is ∙ other)
@@ -219,8 +212,7 @@ first_now past first source event number end sinks now gathered text told before
 
 pub one_next : (past : Histories) (first at source event number end : ℕ) (sinks now : List (Option Sink)) (entry : Option Sink) (gathered next : Gathered) (text told more : List ℕ)
     (before mid after : List Account) → at ≡ number → number < most_sinks → length now ≡ most_sinks → EntriesAre past sinks → number < end → end ≡ first + 1
-    → OneBetween past first source event number sinks now gathered text told before mid
-    → (calls_of gathered ≡ []
+    → OneBetween past first source event number sinks now gathered text told before mid → (calls_of gathered ≡ []
     → SinkHands (past.boxes number) (past.mades number) (past.sources number) (past.lives number) (past.received number) number source event entry next told more mid after (Ok tt))
     → OneBetween past first source event (number + 1) sinks (slice_set now at entry) next text more before after
 one_next past first at source event number end sinks now entry gathered next text told more before mid after same within eight are less alone b h =
@@ -233,8 +225,7 @@ one_next past first at source event number end sinks now entry gathered next tex
 
 pub one_ends : (past : Histories) (first source event number end : ℕ) (sinks now last : List (Option Sink)) (entry : Option Sink) (gathered next : Gathered) (text told more : List ℕ)
     (before mid after : List Account) (stop : Stop) → number < end → end ≡ first + 1
-    → OneBetween past first source event number sinks now gathered text told before mid
-    → (calls_of gathered ≡ []
+    → OneBetween past first source event number sinks now gathered text told before mid → (calls_of gathered ≡ []
     → SinkHands (past.boxes number) (past.mades number) (past.sources number) (past.lives number) (past.received number) number source event entry next told more mid after (Err stop))
     → OneCloses past first source event last next text more before after (Err stop)
 one_ends past first source event number end sinks now last entry gathered next text told more before mid after stop less alone b h =

@@ -92,8 +92,7 @@ none_made sinks n k is below = ap (λ s. slice_get s n) is ∙ get_replicate Non
 -- ---- what comes to the sink of an entry
 
 pub entry_tuned : (box : Option ℕ) (made : Option Settings) (own : Option ℕ) (calls_made : List links.Call) (received : List Call) (source : ℕ)
-    (big_sync : BigSync)
-    (sink new : Sink) (beyond : Bool) → (is : SinkIs box made own calls_made received sink) → new.outlet ≡ sink.outlet
+    (big_sync : BigSync) (sink new : Sink) (beyond : Bool) → (is : SinkIs box made own calls_made received sink) → new.outlet ≡ sink.outlet
     → IsSink (after_tuning source big_sync (histories_of is.how own calls_made received)) new.living
     → beyond ≡ has_beyond big_sync.info.num_bis big_sync.which → beyond ≡ false
     → EntryTunes box made own calls_made received source big_sync (Some new) (Ok tt)
@@ -125,8 +124,7 @@ pub event_heard : (box : Option ℕ) (made : Option Settings) (own : Option ℕ)
     → (is : SinkIs box made own calls_made received sink) → new.outlet ≡ sink.outlet → from ≡ own → of ≡ is_of source from → of ≡ true
     → IsSink (hearing_event event bis pdus (histories_of is.how own calls_made received)) new.living
     → EntryIs box made own calls_made (if is_of source own then heard_calls event bis pdus received else received) (Some (Some new))
-event_heard box made own calls_made received source event bis pdus sink new from of is outlet f o t lives =
-    grind (arith, is_of, entry_of)
+event_heard box made own calls_made received source event bis pdus sink new from of is outlet f o t lives = grind (arith, is_of, entry_of)
 
 -- of another source
 pub event_passed : (box : Option ℕ) (made : Option Settings) (own : Option ℕ) (calls_made : List links.Call) (received : List Call)

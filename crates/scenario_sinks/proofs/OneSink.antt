@@ -110,8 +110,7 @@ event_stays : (n source event bis : ℕ) (pdus : List (Option (List ℕ))) (past
 event_stays n source event bis pdus past = grind arith
 
 pub heard_event : (n at source event bis : ℕ) (pdus : List (Option (List ℕ))) (past : Histories) (old new : Sinks) (entry : Option Sink) → SinksStand past old → at ≡ n
-    → n < most_sinks → length old.entries.items ≡ most_sinks
-    → EntryIs (past.boxes n) (past.mades n) (past.sources n) (past.lives n)
+    → n < most_sinks → length old.entries.items ≡ most_sinks → EntryIs (past.boxes n) (past.mades n) (past.sources n) (past.lives n)
     (if is_of source (past.sources n) then heard_calls event bis pdus (past.received n) else past.received n) (Some entry)
     → new.entries.items ≡ slice_set old.entries.items at entry → new.outlet_count ≡ old.outlet_count → new.gathered ≡ old.gathered
     → SinksStand (with_heard n source event bis pdus past) new

@@ -1,12 +1,10 @@
 -- A source whose BASE is put together, after a line that says something of it.
-use Rattle.scenario_sources.proofs.Prelude.{ℕ, ◌≡◌, ◌≤◌, ◌<◌, ◌⊎◌, nat_lt, Bool, true, false, cond, List, [], ◌∷◌, length, Option, None, Some, Result, Ok, Err, refl, sym, ap, is_some, not, ◌∙◌, arith, le-ltb, lt-ltb, ForSome, Refuses, entry_fault, finish_fault, is_empty_last, last_of, metadata_fault, opened, size_fault, subgroup_fault, with_entry, with_metadata, with_subgroup, Endpoint, IsConfig, endpoint, indices, is_lc3, encoding, stands_in, Subgroup, NoSuchBis, Order, Stop, Refused, Step, Bis, Meta, base_lines, has_bis, has_subgroup, is_last_bare, subgroups_of, described, phase_of, Described, Becomes, DescribedIs}
+use Rattle.scenario_sources.proofs.Prelude.{ℕ, ◌≡◌, ◌≤◌, ◌<◌, ◌⊎◌, nat_lt, Bool, true, false, cond, List, [], ◌∷◌, length, Option, None, Some, Result, Ok, Err, refl, sym, ap, is_some, not, ◌∙◌, arith, le-ltb, lt-ltb, ForSome, Refuses, entry_fault, finish_fault, is_empty_last, last_of, metadata_fault, opened, size_fault, subgroup_fault, with_entry, with_metadata, with_subgroup, Endpoint, IsConfig, endpoint, indices, is_lc3, encoding, stands_in, Subgroup, NoSuchBis, Order, Stop, Refused, Step, Bis, Meta, base_lines, has_bis, has_subgroup, is_last_bare, subgroups_of, described, phase_of, Described, Becomes, DescribedIs, adds_to_last, describes_last, is_bare, is_missing, stop_of}
 use Rattle.ltv_codec.specs.Layout.{AreLtvs}
 use Rattle.base_grammar.specs.declared.fault.DraftFault.{DraftFault}
 use Rattle.base_grammar.specs.declared.fault.DraftFault.TheVariants as of_draft
 use Rattle.base_grammar.specs.declared.subgroup.BaseEntry.{BaseEntry}
-use Rattle.announcement_train.proofs.Citable.{adds_to_last, describes_last}
 use Rattle.scenario_text.specs.declared.step.Step.TheVariants.{Subgroup as SubgroupStep}
-use Rattle.scenario_sources.specs.Bases.{is_bare, is_missing, stop_of}
 use Rattle.scenario_sources.specs.declared.phase.Phase.TheVariants as phases
 
 -- ---- what a draft refuses

@@ -1,10 +1,7 @@
 -- The sources after a step that means one of them.
-use Rattle.scenario_sources.proofs.Prelude.{◌≡◌, ◌≢◌, ℕ, ◌<◌, ◌-◌, ◌==◌, Bool, true, false, List, ◌∷◌, length, refl, sym, ◌∙◌, ap, eq-eqb, ne_eqb, slice_get, slice_set, get_or, ◌&&◌, arith, Option, None, Some, ◌⊎◌, Result, Ok, Err, get_or_from_slice_get, slice_get-get_or, cases_eq, Refusal, IdentTwice, Stop, Refused, Step, Event, Start, Terminate, chosen_given, chosen_of, chosen_steps, is_of_source, other_of, steps_of_source, identity_of, is_started, get_set_here, get_set_other, refuse_if, Identity, Phase, Sources, fault_in, fault_of, Becomes, IsReady, PhaseAt, PhaseIs, SourcesStand}
-use Rattle.scenario_history.specs.Refusals.{is_ident_twice, twin_refusal}
-use Rattle.source_machine.specs.Setups.{are_twins}
+use Rattle.scenario_sources.proofs.Prelude.{◌≡◌, ◌≢◌, ℕ, ◌<◌, ◌-◌, ◌==◌, Bool, true, false, List, ◌∷◌, length, refl, sym, ◌∙◌, ap, eq-eqb, ne_eqb, slice_get, slice_set, get_or, ◌&&◌, arith, Option, None, Some, ◌⊎◌, Result, Ok, Err, get_or_from_slice_get, slice_get-get_or, cases_eq, Refusal, IdentTwice, Stop, Refused, Step, Event, Start, Terminate, chosen_given, chosen_of, chosen_steps, is_of_source, other_of, steps_of_source, identity_of, is_started, get_set_here, get_set_other, refuse_if, Identity, Phase, Sources, fault_in, fault_of, Becomes, IsReady, PhaseAt, PhaseIs, SourcesStand, is_ident_twice, twin_refusal, are_twins, Answers, Closes, Performs, Terminates}
 use Rattle.scenario_sources.specs.declared.performed.Performed.{Performed}
 use Rattle.scenario_sources.specs.declared.terminated.Terminated.{Terminated}
-use Rattle.scenario_sources.specs.Answers.{Answers, Closes, Performs, Terminates}
 use Rattle.scenario_sources.specs.State.Phases as state
 
 -- the phase of a source that was read

@@ -1,21 +1,15 @@
 -- One source after a step that means it.
-use Rattle.scenario_sources.proofs.Prelude.{◌≡◌, ◌≢◌, ◌<◌, ◌-◌, ℕ, Air, airs_exist, Bool, true, false, List, [], ◌∷◌, refl, sym, subst, option_or, ◌∙◌, ap, is_some, unwrap_or, option_map, if◌then◌else◌, arith, Option, None, Some, Result, Ok, Err, endpoint, BigInfo, Cipher, subgroups_in, with_cipher, without_cipher, airs_of, pdu_of, stale_of, waiting_of, Call, Setup, next_of, Source, StandsFor, Refusal, Order, Stop, Refused, Step, Ident, subgroups_of, GroupLine, cipher_of, event_back, pdu_in, absent, described, sending, phase_of, ident_of, is_ciphered, open_event, performed, setup_of, source_calls, stale_in, takes_units, is_over, Identity, Described, IsPlain, group_step, fault_in, misfit_refusal_of, AbsentIs, Becomes, DescribedIs, StartedIs}
+use Rattle.scenario_sources.proofs.Prelude.{◌≡◌, ◌≢◌, ◌<◌, ◌-◌, ℕ, Air, airs_exist, Bool, true, false, List, [], ◌∷◌, refl, sym, subst, option_or, ◌∙◌, ap, is_some, unwrap_or, option_map, if◌then◌else◌, arith, Option, None, Some, Result, Ok, Err, endpoint, BigInfo, Cipher, subgroups_in, with_cipher, without_cipher, airs_of, pdu_of, stale_of, waiting_of, Call, Setup, next_of, Source, StandsFor, Refusal, Order, Stop, Refused, Step, Ident, subgroups_of, GroupLine, cipher_of, event_back, pdu_in, absent, described, sending, phase_of, ident_of, is_ciphered, open_event, performed, setup_of, source_calls, stale_in, takes_units, is_over, Identity, Described, IsPlain, group_step, fault_in, misfit_refusal_of, AbsentIs, Becomes, DescribedIs, StartedIs, AreAirs, IsChecked, air_fault, answer_of, give_fault, misfit_of, refused_unit, air_refusal, give_refusal, no_place, relayed_or, SentIs, GivesTo, GiveStops}
 use Rattle.std.specs.List.{range_with_len}
 use Rattle.std.specs.Prelude.{map, IfNone, IfSome, OnSome}
 use Rattle.iso_pdu.specs.Encoding.{pdu}
 use Rattle.radio_schedule.specs.declared.air.AirFault.{AirFault}
-use Rattle.source_machine.specs.Airs.{AreAirs}
 use Rattle.source_machine.specs.Calls.{event as perform, last_of}
-use Rattle.source_machine.specs.Setups.{IsChecked}
 use Rattle.source_machine.specs.declared.sent.Stale.{Stale}
 use Rattle.source_machine.specs.declared.fault.GiveFault.{GiveFault}
 use Rattle.source_machine.specs.UnitFaults as faults
-use Rattle.source_machine.specs.Faults.{air_fault, answer_of, give_fault, misfit_of, refused_unit}
 use Rattle.scenario_text.specs.declared.step.Step.TheVariants.{Cipher as CipherLine, Unit as UnitStep}
-use Rattle.scenario_history.specs.Refusals.{air_refusal, give_refusal, no_place, relayed_or}
 use Rattle.scenario_sources.specs.declared.phase.Phase.TheVariants as phases
-use Rattle.scenario_sources.specs.Answers.{SentIs}
-use Rattle.scenario_sources.specs.State.Stops.{GivesTo, GiveStops}
 
 same_line : (i j : BigInfo) (o p d e : ℕ) → i ≡ j → o ≡ p → d ≡ e
     → let one : GroupLine = record { info = i; origin = o; delay = d } in let other : GroupLine = record { info = j; origin = p; delay = e } in one ≡ other
@@ -132,8 +126,7 @@ pub relays_not : (version : ℕ) (own : List Step) (started : Source) (bis : ℕ
     → (phase_of own ≡ sending) × StartedIs own started → is_some started.cipher ≡ false
     → fault ≡ option_map answer_of (misfit_of started.setup (source_calls own) bis time octets) → reason ≡ misfit_refusal_of fault
     → relayed_or true (fault_in version own (UnitStep bis time octets)) ≡ Some reason
-relays_not version own started bis time octets fault reason is plain fits named =
-    grind (arith, uncoded, relayed_by, waiting_of, airs_of)
+relays_not version own started bis time octets fault reason is plain fits named = grind (arith, uncoded, relayed_by, waiting_of, airs_of)
 
 -- both sources refuse nothing of a unit
 pub lone_relayed : (refusal : Option Refusal) (reason : Refusal) → relayed_or true refusal ≡ Some reason → relayed_or true (option_or refusal None) ≡ Some reason

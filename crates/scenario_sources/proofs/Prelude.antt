@@ -26,7 +26,7 @@ pub use Rattle.scenario_text.specs.declared.step.Step.{Step}
 pub use Rattle.scenario_text.specs.declared.step.Step.TheVariants.{Bis, Meta, Start, Ident, Event, Terminate}
 pub use Rattle.sink_history.specs.Refusals.{refuse_if}
 pub use Rattle.source_machine.proofs.Citable.{airs_exist}
-pub use Rattle.source_machine.specs.Airs.{airs_of, pdu_of, stale_of, waiting_of}
+pub use Rattle.source_machine.specs.Airs.{airs_of, pdu_of, stale_of, waiting_of, AreAirs}
 pub use Rattle.source_machine.specs.Calls.{Call, Setup, next_of, next_anchor_of, event}
 pub use Rattle.source_machine.specs.Ciphers.{with_cipher, without_cipher}
 pub use Rattle.source_machine.specs.State.Sources.{Source, StandsFor, anchor_in, group_in}
@@ -35,3 +35,11 @@ pub use Rattle.transcript_text.specs.declared.refusal.Refusal.{Refusal}
 pub use Rattle.transcript_text.specs.declared.refusal.Refusal.TheVariants.{Order, NoSuchBis, IdentTwice, CounterEnds, BadGroup, BaseTooLong}
 pub use Rattle.transcript_text.specs.declared.stop.Stop.{Stop}
 pub use Rattle.transcript_text.specs.declared.stop.Stop.TheVariants.{Refused}
+pub use Rattle.announcement_train.proofs.Citable.{adds_to_last, describes_last, plain_is_small}
+pub use Rattle.scenario_sources.specs.Bases.{is_bare, is_missing, stop_of, is_long}
+pub use Rattle.source_machine.specs.Setups.{IsChecked, are_twins, Configured, started}
+pub use Rattle.source_machine.specs.Faults.{air_fault, answer_of, give_fault, misfit_of, refused_unit, announce_fault, ConfigureFails, event_fault}
+pub use Rattle.scenario_history.specs.Refusals.{air_refusal, give_refusal, no_place, relayed_or, is_ident_twice, twin_refusal, train_ends, group_refusal, counter_ends}
+pub use Rattle.scenario_sources.specs.Answers.{SentIs, Answers, Closes, Performs, Terminates, AnnouncesAs}
+pub use Rattle.scenario_sources.specs.State.Stops.{GivesTo, GiveStops, FinishStops, Finishes, StartStops}
+pub use Rattle.std.proofs.lemmas.Result.{IfErr-weaker, IfOk-weaker}

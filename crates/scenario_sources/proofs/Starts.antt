@@ -1,22 +1,16 @@
 -- The start of a source: why it is refused, and what it begins with.
-use Rattle.std.proofs.Common.{arith}
-use Rattle.scenario_sources.proofs.Prelude.{ℕ, ◌≡◌, ◌≤◌, nat_lt, not, Bool, true, false, cond, List, [], ◌∷◌, length, Option, None, Some, Err, refl, sym, ap, is_some, unwrap_or, ◌∙◌, option_or, false≢true, none-some, finish_fault, is_empty_last, last_of, size_fault, Endpoint, endpoint, encoding, Subgroup, BigInfo, Setup, without_cipher, Source, StandsFor, Refusal, BadGroup, BaseTooLong, Order, Stop, Refused, Step, Start, base_from, base_of, has_subgroup, is_base_too_long, is_last_bare, subgroups_of, refuse_if, GroupLine, checked_info, described, identity_of, is_ahead_in, is_described_at, no_identity, phase_of, is_unbegun_at, running, stage_of, neither, fails_not, fault_in, Identity, identity_or_none, Described, Becomes, Begins, DescribedIs, MayStart, StartedIs, line_of}
+use Rattle.scenario_sources.proofs.Prelude.{ℕ, ◌≡◌, ◌≤◌, nat_lt, not, Bool, true, false, cond, List, [], ◌∷◌, length, Option, None, Some, Err, refl, sym, ap, is_some, unwrap_or, ◌∙◌, option_or, false≢true, none-some, finish_fault, is_empty_last, last_of, size_fault, Endpoint, endpoint, encoding, Subgroup, BigInfo, Setup, without_cipher, Source, StandsFor, Refusal, BadGroup, BaseTooLong, Order, Stop, Refused, Step, Start, base_from, base_of, has_subgroup, is_base_too_long, is_last_bare, subgroups_of, refuse_if, GroupLine, checked_info, described, identity_of, is_ahead_in, is_described_at, no_identity, phase_of, is_unbegun_at, running, stage_of, neither, fails_not, fault_in, Identity, identity_or_none, Described, Becomes, Begins, DescribedIs, MayStart, StartedIs, line_of, arith, plain_is_small, ConfigureFails, group_refusal, is_long, FinishStops, Finishes, StartStops}
 use Rattle.base_grammar.specs.declared.fault.DraftFault.TheVariants as of_draft
 use Rattle.big_info.specs.Rows.{first_fault}
 use Rattle.big_info.specs.declared.fault.GroupFault.{GroupFault}
 use Rattle.big_info.specs.declared.fault.GroupFault.TheVariants as of_group
 use Rattle.announcement_train.specs.PlainBase.{plain_base_of}
-use Rattle.announcement_train.proofs.Citable.{plain_is_small}
-use Rattle.source_machine.specs.Faults.{ConfigureFails}
 use Rattle.source_machine.specs.declared.fault.ConfigureFault.{ConfigureFault}
 use Rattle.source_machine.specs.declared.fault.ConfigureFault.TheVariants.{BadGroup as Misfit}
-use Rattle.scenario_history.specs.Refusals.{group_refusal}
 use Rattle.sink_history.specs.History.{horizon_in}
-use Rattle.scenario_sources.specs.Bases.{is_long}
 use Rattle.scenario_sources.specs.declared.phase.Phase.{Phase as Phases}
 use Rattle.scenario_sources.specs.declared.phase.Phase.TheVariants as phases
 use Rattle.scenario_sources.specs.State.Phases.{is_described as is_described_phase}
-use Rattle.scenario_sources.specs.State.Stops.{FinishStops, Finishes, StartStops}
 use Rattle.scenario_sources.proofs.Drafts.{has_last}
 
 abbrev DescribedSo : List Step → Described → Type 0
@@ -150,8 +144,7 @@ group_fails version first horizon own said plain (Misfit fault) (Refused reason)
       arith,
       passes version first own is.0 may.0,
       bad_refusal horizon said.info fault fails.first fails.other,
-      checked_is own said
-          is.1,
+      checked_is own said is.1,
     )
 group_fails version first horizon own said plain fault stop h is may fails g = search (false≢true, none-some)
 

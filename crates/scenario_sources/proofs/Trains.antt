@@ -1,12 +1,8 @@
 -- What a source announces that is as its steps leave it.
-use Rattle.std.proofs.Common.{arith}
-use Rattle.scenario_sources.proofs.Prelude.{◌≡◌, List, None, Some, Ok, Err, sym, ◌∙◌, ap, next_anchor_of, next_of, with_cipher, anchor_in, group_in, Source, CounterEnds, Refused, Step, checked_info, phase_of, sending, setup_of, source_calls, StartedIs}
+use Rattle.scenario_sources.proofs.Prelude.{◌≡◌, List, None, Some, Ok, Err, sym, ◌∙◌, ap, next_anchor_of, next_of, with_cipher, anchor_in, group_in, Source, CounterEnds, Refused, Step, checked_info, phase_of, sending, setup_of, source_calls, StartedIs, arith, announce_fault, train_ends, AnnouncesAs}
 use Rattle.delegator_history.specs.Octets.{train_of}
 use Rattle.announcement_train.specs.declared.train.Train.{Train}
-use Rattle.source_machine.specs.Faults.{announce_fault}
 use Rattle.source_machine.specs.declared.fault.AnnounceFault.TheVariants.{CounterEnds as NumbersEnd}
-use Rattle.scenario_history.specs.Refusals.{train_ends}
-use Rattle.scenario_sources.specs.Answers.{AnnouncesAs}
 
 -- the group that it announces is the one that its lines say
 group_is : (own : List Step) (started : Source) → StartedIs own started → group_in started ≡ checked_info own

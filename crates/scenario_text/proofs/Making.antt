@@ -1,7 +1,5 @@
 -- The values of a row that have words make a step, and their words say it.
-use Rattle.scenario_text.proofs.Prelude.{◌≡◌, true, ◌||◌, not, List, [], ◌∷◌, refl, and_parts, Place, one, perhaps, rising, wishes, Step, Build, Says}
-use Rattle.scenario_words.specs.Lines.{Values, AllHaveWords, all_words}
-use Rattle.scenario_words.proofs.CitableValues.{EndsAt, words_spelled, words_unspaced, NoSpaces, more_unspaced}
+use Rattle.scenario_text.proofs.Prelude.{◌≡◌, true, ◌||◌, not, List, [], ◌∷◌, refl, and_parts, Place, one, perhaps, rising, wishes, Step, Build, Says, Values, AllHaveWords, all_words, EndsAt, words_spelled, words_unspaced, NoSpaces, more_unspaced}
 use Rattle.scenario_text.proofs.Rows.{all_small, none_more, takes_all, takes_all_last}
 
 -- the step that values at places make

@@ -1,9 +1,7 @@
 -- The lines of a text are the text again, and a text is migrated line by line: all stays but one digit.
-use Rattle.scenario_text.proofs.Prelude.{◌≡◌, ◌≤◌, ◌<◌, ℕ, suc, Bool, true, false, cond, nat_eq, List, [], ◌∷◌, ◌+◌, ◌++◌, length, get_or, take, drop, Option, None, Some, refl, ap, sym, ◌∙◌, append_assoc, arith, eqb-true, false_from_ne_true, onto_first, lines_of, behind, text_of, lines_after}
+use Rattle.scenario_text.proofs.Prelude.{◌≡◌, ◌≤◌, ◌<◌, ℕ, suc, Bool, true, false, cond, nat_eq, List, [], ◌∷◌, ◌+◌, ◌++◌, length, get_or, take, drop, Option, None, Some, refl, ap, sym, ◌∙◌, append_assoc, arith, eqb-true, false_from_ne_true, onto_first, lines_of, behind, text_of, lines_after, is_some, append-nil, drop-append-le, drop-drop, drop_at, length-append, length-drop, take-append-drop, take-append-le, take_at}
 use Rattle.std.specs.Borrow.{Bor}
-use Rattle.std.specs.Option.{is_some}
 use Rattle.std.proofs.Math.Seq.{take-add}
-use Rattle.std.proofs.lemmas.List.{append-nil, drop-append-le, drop-drop, drop_at, length-append, length-drop, take-append-drop, take-append-le, take_at}
 use Rattle.scenario_text.specs.Migrated.{is_blank, migrated_line, migrated_lines, migrated}
 
 -- ---- the first line ends at the first end of a line

@@ -1,6 +1,5 @@
 -- A bad line has one number: words that fit have prefixes that fit.
-use Rattle.scenario_text.proofs.Prelude.{◌≡◌, ◌<◌, ◌+◌, ℕ, zero, suc, List, [], ◌∷◌, take, subst, arith, inl, inr, cases_lt, words_of, Place, one, perhaps, rising, wishes, FitsIndices, FitsPairs, FitsPrefix, FitsLine, IsMisfit}
-use Rattle.std.proofs.lemmas.List.{take-take}
+use Rattle.scenario_text.proofs.Prelude.{◌≡◌, ◌<◌, ◌+◌, ℕ, zero, suc, List, [], ◌∷◌, take, subst, arith, inl, inr, cases_lt, words_of, Place, one, perhaps, rising, wishes, FitsIndices, FitsPairs, FitsPrefix, FitsLine, IsMisfit, take-take}
 
 indices_prefix : (least : ℕ) (words : List (List ℕ)) (j : ℕ) → FitsIndices least words → FitsIndices least (take j words)
 indices_prefix least [] zero fits = tt

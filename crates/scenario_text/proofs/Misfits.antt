@@ -1,6 +1,5 @@
 -- The number of a fault is the number of the words that fit, and no other number is.
-use Rattle.scenario_text.proofs.Prelude.{◌≡◌, ◌≤◌, ◌<◌, ◌+◌, ℕ, suc, Bool, true, cond, ◌||◌, List, [], ◌∷◌, length, take, Option, None, Some, Result, Ok, Err, refl, ap, sym, subst, ◌∙◌, arith, same_Some, and_parts, Wish, LineFault, words_of, WordPlace, between, Place, one, perhaps, rising, wishes, WordValue, ◌>>=◌, bind_ok, Left, Gives, any_word, next_of, taken, word_in, decimal_in, with_stream, streams_of, rising_of, perhaps_of, wishes_of, bounded, all_wishes_of, ended, FitsIndices, FitsPairs, FitsPrefix, word_spelled, is_small, bounded_is, Stops, misfit, bad_is, indices_first, indices_stop, indices_all, pairs_stop, pairs_end, Step, Build, Row, built_at, at_known, whole, line_after, FitsLine, IsMisfit}
-use Rattle.std.proofs.lemmas.List.{take_all}
+use Rattle.scenario_text.proofs.Prelude.{◌≡◌, ◌≤◌, ◌<◌, ◌+◌, ℕ, suc, Bool, true, cond, ◌||◌, List, [], ◌∷◌, length, take, Option, None, Some, Result, Ok, Err, refl, ap, sym, subst, ◌∙◌, arith, same_Some, and_parts, Wish, LineFault, words_of, WordPlace, between, Place, one, perhaps, rising, wishes, WordValue, ◌>>=◌, bind_ok, Left, Gives, any_word, next_of, taken, word_in, decimal_in, with_stream, streams_of, rising_of, perhaps_of, wishes_of, bounded, all_wishes_of, ended, FitsIndices, FitsPairs, FitsPrefix, word_spelled, is_small, bounded_is, Stops, misfit, bad_is, indices_first, indices_stop, indices_all, pairs_stop, pairs_end, Step, Build, Row, built_at, at_known, whole, line_after, FitsLine, IsMisfit, take_all}
 use Rattle.scenario_words.specs.declared.fault.LineFault.TheVariants.{BadLine}
 use Rattle.scenario_text.specs.Table.{row_of}
 use Rattle.scenario_text.specs.Steps.{step_of, read_of}
@@ -116,9 +115,7 @@ rising_halts : (read k : ℕ) (word : List ℕ) (words : List (List ℕ)) (found
 rising_halts read k word words None is e =
     indices_first 1 read k word words None is (λ n some. absurd cc) (λ none. sym (bad_is (ℕ × Left) read k e))
 rising_halts read k word words (Some n) is e =
-    indices_first 1 read k word words (Some n) is
-    (grind (arith, same_Some, indices_stop, with_stream, streams_of))
-    (λ none. absurd cc)
+    indices_first 1 read k word words (Some n) is (grind (arith, same_Some, indices_stop, with_stream, streams_of)) (λ none. absurd cc)
 
 rising_ends : (read : ℕ) (word : List ℕ) (words : List (List ℕ)) (found : Option ℕ) (set : ℕ) (left : Left)
     → decimal_in 1 31 word ≡ found → (taken read words found >>= streams_on words) ≡ Ok (set, left)
@@ -203,11 +200,7 @@ record LineHalts (version : ℕ) (words : List (List ℕ)) (k : ℕ) : Type 0 wh
 in_line : (version k : ℕ) (first : List ℕ) (words : List (List ℕ)) (row : Row) → row_of version first ≡ Some row → Halts row.places words 1 k → LineHalts version (first ∷ words) k
 in_line version k first words row is it =
     let count : k ≡ suc it.0 = omega (arith, it.1) in
-    rw count (record {
-      within = omega (arith, it.2.within);
-      fits = (row, is, it.2.prefix);
-      no_more = grind (arith, take, same_Some);
-    })
+    rw count (record { within = omega (arith, it.2.within); fits = (row, is, it.2.prefix); no_more = grind (arith, take, same_Some) })
 
 abbrev step_bad : ℕ → Result Step LineFault
 step_bad k = Err (BadLine k)

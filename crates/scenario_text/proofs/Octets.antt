@@ -1,9 +1,8 @@
 -- What a word of digits spells is octets, and so is what an operation of such octets spells.
-use Rattle.scenario_text.proofs.Prelude.{◌≤◌, ◌<◌, ◌≡◌, ℕ, zero, suc, ◌/◌, ◌%◌, List, [], ◌∷◌, ◌++◌, length, Ok, arith, flat_map, AllByRecursion, laid, IsOctets, subgroup_fields, Wish, AddSource, ModifySource, Add, Modify, MetadataFits, group_of, encoding}
+use Rattle.scenario_text.proofs.Prelude.{◌≤◌, ◌<◌, ◌≡◌, ℕ, zero, suc, ◌/◌, ◌%◌, List, [], ◌∷◌, ◌++◌, length, Ok, arith, flat_map, AllByRecursion, laid, IsOctets, subgroup_fields, Wish, AddSource, ModifySource, Add, Modify, MetadataFits, group_of, encoding, SpellsOctets, SpellsWishes}
 use Rattle.hex.specs.Hex.{decode_of}
 use Rattle.hex.proofs.HexLemmas.{decode_of-ok}
 use Rattle.bcast_base.specs.Encoding.{number}
-use Rattle.scenario_words.specs.Spelling.{SpellsOctets, SpellsWishes}
 
 -- each metadata is octets
 abbrev pub AreOctets : List Wish → Type 0

@@ -1,6 +1,5 @@
 -- How many octets an operation has.
-use Rattle.scenario_text.proofs.Prelude.{◌≡◌, ◌+◌, List, [], ◌∷◌, ◌++◌, length, refl, arith, flat_map, laid, subgroup_fields, number-length, Wish, AddSource, ModifySource, Add, Modify, group_of, encoding, wishes_octets}
-use Rattle.std.proofs.lemmas.List.{length-append}
+use Rattle.scenario_text.proofs.Prelude.{◌≡◌, ◌+◌, List, [], ◌∷◌, ◌++◌, length, refl, arith, flat_map, laid, subgroup_fields, number-length, Wish, AddSource, ModifySource, Add, Modify, group_of, encoding, wishes_octets, length-append}
 use Rattle.bcast_base.specs.Encoding.{number}
 
 wishes_length : (wishes : List Wish) → length (laid (flat_map (λ wish. subgroup_fields (group_of wish)) wishes)) ≡ wishes_octets wishes

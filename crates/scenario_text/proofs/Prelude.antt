@@ -2,8 +2,8 @@
 pub use Rattle.std.proofs.Common.{◌≡◌, ◌≤◌, ℕ, Bool, true, false, cond, nat_eq, List, [], ◌∷◌, length, Option, None, Some, sym, ◌∙◌, subst, arith, inl, inr, ◌+◌, ◌++◌, refl, ◌<◌, suc, ◌||◌, take, Result, Ok, Err, ap, zero, eqb-true, not, get_or, drop, append_assoc, ◌/◌, ◌%◌, nat_lt, ◌^◌, ◌&&◌, add-one}
 pub use Rattle.std.proofs.lemmas.Bool.{and_parts, cases_lt, false_from_ne_true, not-true}
 pub use Rattle.std.proofs.lemmas.Option.{same_Some}
-pub use Rattle.std.specs.List.{flat_map, AllByRecursion}
-pub use Rattle.std.specs.Prelude.{⊤, IfOk, IfSome, IfNone}
+pub use Rattle.std.specs.List.{flat_map, AllByRecursion, slice_get}
+pub use Rattle.std.specs.Prelude.{⊤, IfOk, IfSome, IfNone, ◌==◌}
 pub use Rattle.bass_operations.specs.Layout.{MetadataFits, group_of, encoding}
 pub use Rattle.bass_operations.specs.declared.operation.AddSource.{AddSource}
 pub use Rattle.bass_operations.specs.declared.operation.ModifySource.{ModifySource}
@@ -28,3 +28,9 @@ pub use Rattle.scenario_words.specs.Places.{WordPlace, between, Place, one, perh
 pub use Rattle.scenario_words.specs.Reading.{Left, Gives, any_word, next_of, ended, taken, word_in, decimal_in, with_stream, streams_of, rising_of, perhaps_of, wishes_of, bounded, all_wishes_of, at_place}
 pub use Rattle.scenario_words.specs.Words.{words_of}
 pub use Rattle.scenario_words.specs.declared.fault.LineFault.{LineFault}
+pub use Rattle.std.specs.Option.{ForSome, is_some}
+pub use Rattle.scenario_words.specs.Spelling.{Spells, SpellsWord, SpellsOctets, SpellsWishes}
+pub use Rattle.scenario_words.specs.Lines.{◌▸◌, Values, AllHaveWords, all_words}
+pub use Rattle.std.proofs.lemmas.List.{length-append, take_all, take-take, append-nil, drop-append-le, drop-drop, drop_at, length-drop, take-append-drop, take-append-le, take_at, take_rest}
+pub use Rattle.scenario_text.specs.declared.step.Step.TheVariants.{Sink, Pac, Locate, Context, Tuned, Hear, Air, Inject, Announce, Train, Show, Lose, Drop, Control, Forge}
+pub use Rattle.scenario_words.proofs.CitableValues.{EndsAt, words_spelled, words_unspaced, NoSpaces, more_unspaced, all_have}

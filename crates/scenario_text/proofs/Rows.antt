@@ -1,7 +1,6 @@
 -- What holds of each row of the table, whatever its step: its first word begins no comment, its numbers fit 64 bits, and a
 -- place that takes all words that are left is its last.
-use Rattle.std.proofs.Common.{arith}
-use Rattle.scenario_text.proofs.Prelude.{◌≡◌, ℕ, Bool, true, false, cond, nat_eq, nat_lt, ◌^◌, ◌&&◌, ◌||◌, not, List, [], ◌∷◌, Option, None, Some, ⊤, and_parts, Place, one, perhaps, rising, wishes, is_small, Row, row_in, event_rows, first_rows, source_rows, sink_rows, link_rows, rows_of_2, link_rows_of_2}
+use Rattle.scenario_text.proofs.Prelude.{◌≡◌, ℕ, Bool, true, false, cond, nat_eq, nat_lt, ◌^◌, ◌&&◌, ◌||◌, not, List, [], ◌∷◌, Option, None, Some, ⊤, and_parts, Place, one, perhaps, rising, wishes, is_small, Row, row_in, event_rows, first_rows, source_rows, sink_rows, link_rows, rows_of_2, link_rows_of_2, arith}
 use Rattle.std.specs.Str.{bytes_eq}
 use Rattle.std.proofs.lemmas.Slice.Eq.{bytes_eq-Decides}
 use Rattle.scenario_text.specs.Table.{row_of, first_row_of, source_row_of, sink_row_of, link_row_of, row_of_2, link_row_of_2}
@@ -100,8 +99,7 @@ firsts_of_2 false first row e = absurd cc
 same_first : (version : ℕ) (first : List ℕ) (row : Row) → row_of version first ≡ Some row → first ≡ row.first
 unfolding row_of first_row_of source_row_of sink_row_of link_row_of row_of_2
 same_first version first row e =
-    firsts_in first event_rows (first_row_of version first) row
-    (firsts_in first (first_rows version) (source_row_of version first) row
+    firsts_in first event_rows (first_row_of version first) row (firsts_in first (first_rows version) (source_row_of version first) row
     (firsts_in first source_rows (sink_row_of version first) row
     (firsts_in first sink_rows (link_row_of version first) row (firsts_in first link_rows (row_of_2 version first) row (firsts_of_2 (nat_eq version 2) first row))))) e
 

@@ -1,6 +1,5 @@
 -- Steps and their lines: what is read is the step that the line says, and what a line says is read.
-use Rattle.std.proofs.Common.{arith}
-use Rattle.scenario_text.proofs.Prelude.{◌≡◌, ◌+◌, ℕ, Bool, true, false, cond, nat_eq, ◌||◌, not, List, [], ◌∷◌, Option, None, Some, Result, Ok, refl, ap, sym, subst, ◌∙◌, eqb-true, IfOk, IfSome, IfNone, and_parts, not-true, same_Some, LineFault, onto_first, words_of, Place, one, perhaps, rising, wishes, ◌>>=◌, bind_ok, Left, Gives, any_word, next_of, at_place, ended, place_again, place_spelled, IsLast, Step, IsInRange, Build, Row, Says, LineIs, IsBlank, built_at, at_known, whole, line_after}
+use Rattle.scenario_text.proofs.Prelude.{◌≡◌, ◌+◌, ℕ, Bool, true, false, cond, nat_eq, ◌||◌, not, List, [], ◌∷◌, Option, None, Some, Result, Ok, refl, ap, sym, subst, ◌∙◌, eqb-true, IfOk, IfSome, IfNone, and_parts, not-true, same_Some, LineFault, onto_first, words_of, Place, one, perhaps, rising, wishes, ◌>>=◌, bind_ok, Left, Gives, any_word, next_of, at_place, ended, place_again, place_spelled, IsLast, Step, IsInRange, Build, Row, Says, LineIs, IsBlank, built_at, at_known, whole, line_after, arith}
 use Rattle.scenario_text.specs.Table.{row_of}
 use Rattle.scenario_text.specs.Steps.{step_of, read_of}
 use Rattle.scenario_text.proofs.Rows.{all_small, takes_all, none_more, takes_all_last, is_word, of_table}

@@ -1,13 +1,9 @@
 -- Proof by the lines of a sink, and by those of its clients.
-use Rattle.scenario_text.proofs.Prelude.{ℕ, List, Option}
-use Rattle.bass_operations.specs.declared.operation.AddSource.{AddSource}
-use Rattle.bass_operations.specs.declared.operation.ModifySource.{ModifySource}
+use Rattle.scenario_text.proofs.Prelude.{ℕ, List, Option, AddSource, ModifySource, Step, Sink, Pac, Locate, Context, Tuned, Hear, Air, Inject, Announce, Train, Show, Lose, Drop, Control, Forge}
 use Rattle.bcast_base.specs.declared.bis.Bis.{Bis}
 use Rattle.bcast_base.specs.declared.bis.BisSet.{BisSet}
 use Rattle.bcast_base.specs.declared.octets.Octets.{Octets}
 use Rattle.scenario_text.specs.Whose.{IsOfClient, IsOfSink}
-use Rattle.scenario_text.specs.declared.step.Step.{Step}
-use Rattle.scenario_text.specs.declared.step.Step.TheVariants.{Sink, Pac, Locate, Context, Tuned, Hear, Air, Inject, Announce, Train, Show, Lose, Drop, Control, Forge}
 use Rattle.scenario_text.specs.declared.step.Step.TheVariants.{Write, Add, Modify, Remove, Code, Serve, Tell, Read, Drain, Assist, Apart, AWrite, AServe, ATell, ARead, ADrain, AShow}
 
 -- what holds of each line of a sink holds of a line that is one

@@ -1,9 +1,6 @@
 -- The values at the places of a row are within their ranges, and so are the numbers of its step.
-use Rattle.scenario_text.proofs.Prelude.{◌≡◌, ◌≤◌, ℕ, Bool, cond, nat_eq, List, [], ◌∷◌, length, Option, None, Some, subst, arith, inl, inr, ⊤, same_Some, WordPlace, between, framing_word, time_up_to, octets_up_to, octets_exactly, number_in_octets, list_up_to, Place, one, perhaps, rising, wishes, WordValue, PlaceValue, IsOctets, MetadataFits, Step, IsInRange, Build, Row, Says}
-use Rattle.std.specs.Option.{ForSome}
-use Rattle.scenario_words.specs.Spelling.{Spells, SpellsWord}
+use Rattle.scenario_text.proofs.Prelude.{◌≡◌, ◌≤◌, ℕ, Bool, cond, nat_eq, List, [], ◌∷◌, length, Option, None, Some, subst, arith, inl, inr, ⊤, same_Some, WordPlace, between, framing_word, time_up_to, octets_up_to, octets_exactly, number_in_octets, list_up_to, Place, one, perhaps, rising, wishes, WordValue, PlaceValue, IsOctets, MetadataFits, Step, IsInRange, Build, Row, Says, ForSome, Spells, SpellsWord, ◌▸◌}
 use Rattle.ltv_codec.specs.Reading.{bad_of}
-use Rattle.scenario_words.specs.Lines.{◌▸◌}
 use Rattle.scenario_text.specs.Table as rows
 use Rattle.scenario_text.specs.Table.{row_of}
 use Rattle.scenario_text.proofs.Rows.{EachRow, of_each_row}

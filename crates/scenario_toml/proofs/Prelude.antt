@@ -4,3 +4,6 @@ pub use Rattle.scenario_toml.specs.Parts.{after, both, each}
 pub use Rattle.scenario_toml.specs.State.Fields.{field_of, texts_of}
 pub use Rattle.scenario_toml.specs.Words.{words, field, is_printed}
 pub use Rattle.toml.specs.View.{items_view, members_view, table_view}
+pub use Rattle.scenario_toml.specs.Tables.{only_has, is_field, is_among}
+pub use Rattle.scenario_toml.specs.Document.{lines}
+pub use Rattle.std.specs.List.{list_any, list_all}

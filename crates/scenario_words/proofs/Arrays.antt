@@ -1,7 +1,5 @@
 -- A word of exactly so many octets, whose end is looked for at its place alone, and the number in such octets.
-use Rattle.scenario_words.proofs.Prelude.{◌≡◌, ◌<◌, ◌+◌, ◌-◌, ◌*◌, ◌^◌, ℕ, true, nat_eq, List, [], ◌∷◌, length, get_or, take, drop, Option, None, Some, Ok, Err, refl, sym, ap, arith, eq-eqb, add-one, take_rest, Bor, list_all, list_all-from_AllPass, AllPass-from_list_all, is_hex_digit, decode_of, decode_of-ok, sum_from, LineFault, BadLine, ok_is, Left, next, next_of, taken, words_after, words_of}
-use Rattle.std.specs.Option.{option_map}
-use Rattle.bcast_base.proofs.Citable.{err_is}
+use Rattle.scenario_words.proofs.Prelude.{◌≡◌, ◌<◌, ◌+◌, ◌-◌, ◌*◌, ◌^◌, ℕ, true, nat_eq, List, [], ◌∷◌, length, get_or, take, drop, Option, None, Some, Ok, Err, refl, sym, ap, arith, eq-eqb, add-one, take_rest, Bor, list_all, list_all-from_AllPass, AllPass-from_list_all, is_hex_digit, decode_of, decode_of-ok, sum_from, LineFault, BadLine, ok_is, Left, next, next_of, taken, words_after, words_of, option_map, err_is}
 use Rattle.std.proofs.lemmas.List.{get_or-take, length-take-le}
 use Rattle.scenario_words.specs.Reading.{exact_in, number_in}
 use Rattle.scenario_words.proofs.LastWord.{digits_one, no_space_at}

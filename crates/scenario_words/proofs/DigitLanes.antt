@@ -1,13 +1,9 @@
 -- The digits of sixteen octets at once, as lanes of a vector.
-use Rattle.scenario_words.proofs.Prelude.{◌≡◌, ◌<◌, ◌/◌, ◌%◌, ◌+◌, ℕ, suc, zero, List, [], ◌∷◌, ◌++◌, length, map, refl, ap, ◌∙◌, sym, cond, arith, slice_index, lower_digits, ◌-◌, ◌≤◌, ◌*◌, take, drop, take_all, drop_all, length-drop, take-append-drop, append-nil, encode_lower}
-use Rattle.std.specs.Prelude.{replicate}
+use Rattle.scenario_words.proofs.Prelude.{◌≡◌, ◌<◌, ◌/◌, ◌%◌, ◌+◌, ℕ, suc, zero, List, [], ◌∷◌, ◌++◌, length, map, refl, ap, ◌∙◌, sym, cond, arith, slice_index, lower_digits, ◌-◌, ◌≤◌, ◌*◌, take, drop, take_all, drop_all, length-drop, take-append-drop, append-nil, encode_lower, replicate, and_mask, take-put_mid, put_mid}
 use Rattle.std.specs.Simd.Lanes.{Each1, zip2}
 use lib.Lanes.{sel_l, put_chunk, pick_l, top}
 use Rattle.std.proofs.lemmas.Simd.{zip2_splat, put_chunk_whole, map-map, length-zip2}
-use Rattle.std.proofs.lemmas.Nat.{and_mask}
 use Rattle.std.proofs.lemmas.List.{length-take-le, take-take, drop-take}
-use Rattle.std.proofs.lemmas.Slice.{take-put_mid}
-use borrow.Rule.Slice.PartMut.{put_mid}
 use Rattle.hex.specs.Hex.{encode_with}
 use Rattle.scenario_words.proofs.Putting.{encode_append}
 use borrow.Rule.Simd.Lanes.{act2}

@@ -47,8 +47,7 @@ word_is line n end begins =
     let some : 0 < end = begins.some in
     is_decimal (take end line) end n (omega (arith, count)) (omega (arith, count))
     (λ zero. begins.leading (omega (arith, count, zero.0), sym (get_or-take end line 0 0 some) ∙ zero.1))
-    begins.small
-    (begins.value ∙ ap (λ (w : List ℕ). digits_value 10 w) (sym (take_all end (take end line) (omega (arith, count)))))
+    begins.small (begins.value ∙ ap (λ (w : List ℕ). digits_value 10 w) (sym (take_all end (take end line) (omega (arith, count)))))
     (λ k inside. rw (get_or-take end line k 0 inside) (begins.digits k inside))
 
 -- nothing stands behind the number

@@ -1,6 +1,5 @@
 -- A line that spells octets is one word: no digit is a space.
-use Rattle.std.proofs.Common.{arith}
-use Rattle.scenario_words.proofs.Prelude.{eqb-true, nat_eq, ◌≡◌, ◌+◌, ℕ, Bool, true, false, cond, List, [], ◌∷◌, Option, None, Some, Result, Ok, refl, sym, Bor, list_all, bytes_eq, list_all-from_AllPass, bytes_eq-Decides, decode_of, is_hex_digit, FromHexError, decode_of-ok, SpellsNext, SpellsSome, next, within, words_after, words_of}
+use Rattle.scenario_words.proofs.Prelude.{eqb-true, nat_eq, ◌≡◌, ◌+◌, ℕ, Bool, true, false, cond, List, [], ◌∷◌, Option, None, Some, Result, Ok, refl, sym, Bor, list_all, bytes_eq, list_all-from_AllPass, bytes_eq-Decides, decode_of, is_hex_digit, FromHexError, decode_of-ok, SpellsNext, SpellsSome, next, within, words_after, words_of, arith}
 use Rattle.scenario_words.proofs.DigitPairs.{both_digits}
 use Rattle.scenario_words.specs.Reading.{octets_in}
 

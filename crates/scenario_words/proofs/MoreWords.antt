@@ -1,6 +1,5 @@
 -- Whether a word is left: each line has one.
-use Rattle.std.proofs.Common.{arith}
-use Rattle.scenario_words.proofs.Prelude.{◌≡◌, ◌≢◌, ◌↔◌, ℕ, Bool, true, cond, List, [], ◌∷◌, Option, Err, IsTrue, Bor, is_some, BadLine, onto_first, words_of, words_after, ended}
+use Rattle.scenario_words.proofs.Prelude.{◌≡◌, ◌≢◌, ◌↔◌, ℕ, Bool, true, cond, List, [], ◌∷◌, Option, Err, IsTrue, Bor, is_some, BadLine, onto_first, words_of, words_after, ended, arith}
 
 onto_some : (x : ℕ) (words : List (List ℕ)) → onto_first x words ≡ [] → ⊥
 onto_some x words e = grind arith

@@ -1,8 +1,6 @@
 -- Numbers that are put digit by digit, and numbers whose digits stand in front of a room.
-use Rattle.scenario_words.proofs.Prelude.{◌≡◌, ◌≤◌, ◌<◌, ℕ, ◌+◌, ◌/◌, ◌%◌, List, [], ◌∷◌, ◌++◌, length, take, drop, ap, sym, ◌∙◌, arith, decimal, decimal_digit}
-use Rattle.std.proofs.lemmas.Fmt.{decimal_step}
+use Rattle.scenario_words.proofs.Prelude.{◌≡◌, ◌≤◌, ◌<◌, ℕ, ◌+◌, ◌/◌, ◌%◌, List, [], ◌∷◌, ◌++◌, length, take, drop, ap, sym, ◌∙◌, arith, decimal, decimal_digit, decimal_step, put_mid}
 use lib.Seq.{take-append-add, take-append-le, length-take-le}
-use borrow.Rule.Slice.PartMut.{put_mid}
 
 pub one_digit : (n : ℕ) → n < 10 → decimal n ≡ (48 + n % 10) ∷ []
 one_digit n small =
@@ -10,14 +8,12 @@ one_digit n small =
     decimal_digit n small ∙ ap (λ k. (48 + k) ∷ []) last
 
 pub two_digits : (n : ℕ) → 10 ≤ n → n < 100 → decimal n ≡ (48 + n / 10 % 10) ∷ (48 + n % 10) ∷ []
-two_digits n large small =
-    decimal_step n large (omega arith) ∙ ap (λ l. l ++ (48 + n % 10) ∷ []) (one_digit (n / 10) (omega arith))
+two_digits n large small = decimal_step n large (omega arith) ∙ ap (λ l. l ++ (48 + n % 10) ∷ []) (one_digit (n / 10) (omega arith))
 
 pub three_digits : (n : ℕ) → 100 ≤ n → n < 1000 → decimal n ≡ (48 + n / 100) ∷ (48 + n / 10 % 10) ∷ (48 + n % 10) ∷ []
 three_digits n large small =
     let first : n / 10 / 10 % 10 ≡ n / 100 = omega arith in
-    decimal_step n (omega arith) (omega arith)
-    ∙ ap (λ l. l ++ (48 + n % 10) ∷ []) (two_digits (n / 10) (omega arith) (omega arith))
+    decimal_step n (omega arith) (omega arith) ∙ ap (λ l. l ++ (48 + n % 10) ∷ []) (two_digits (n / 10) (omega arith) (omega arith))
     ∙ ap (λ k. (48 + k) ∷ (48 + n / 10 % 10) ∷ (48 + n % 10) ∷ []) first
 
 -- the whole room of a number was written behind octets, and so many of its digits count

@@ -1,7 +1,5 @@
 -- What one word spells, and the ranges that follow.
-use Rattle.scenario_words.proofs.Prelude.{leb, nat_eq, eqb-true, ◌≡◌, ◌≤◌, ◌<◌, ℕ, ◌*◌, ◌/◌, ◌%◌, ◌^◌, Bool, true, false, cond, List, [], ◌∷◌, ◌++◌, take, length, Option, None, Some, Result, Ok, refl, ap, sym, ◌∙◌, arith, decimal, ◌&&◌, IsErr, is_none, bytes_eq, digits_value, digits_decimal, subst, IsInRange, bytes_eq-Decides, digits_value-decimal, decimal_injective, leb-true, le-leb, lt-leb, eq-eqb, list_all, decode_of, is_hex_digit, decode_of-ok, FromHexError, SpellsSome, within, exactly, sum_from, number_below, bad_of}
-use Rattle.std.proofs.Math.Seq.{take-append_seam}
-use Rattle.std.specs.Option.{option_map}
+use Rattle.scenario_words.proofs.Prelude.{leb, nat_eq, eqb-true, ◌≡◌, ◌≤◌, ◌<◌, ℕ, ◌*◌, ◌/◌, ◌%◌, ◌^◌, Bool, true, false, cond, List, [], ◌∷◌, ◌++◌, take, length, Option, None, Some, Result, Ok, refl, ap, sym, ◌∙◌, arith, decimal, ◌&&◌, IsErr, is_none, bytes_eq, digits_value, digits_decimal, subst, IsInRange, bytes_eq-Decides, digits_value-decimal, decimal_injective, leb-true, le-leb, lt-leb, eq-eqb, list_all, decode_of, is_hex_digit, decode_of-ok, FromHexError, SpellsSome, within, exactly, sum_from, number_below, bad_of, take-append_seam, option_map}
 use Rattle.scenario_words.proofs.DigitPairs.{spelled}
 use Rattle.scenario_words.specs.Reading.{decimal_in, framing_in, time_in, octets_in, exact_in, list_in}
 use Rattle.ltv_codec.specs.declared.fault.LtvBad.{LtvBad}

@@ -1,15 +1,9 @@
 -- The pairs of words that are left of a line, read one after the other into the octets of their subgroups.
-use Rattle.scenario_words.proofs.Prelude.{◌≡◌, ◌≢◌, ◌≤◌, ◌<◌, ℕ, ◌+◌, ◌-◌, ◌/◌, List, [], ◌∷◌, ◌++◌, length, Ok, Err, refl, ap, sym, ◌∙◌, arith, length-append, number-length, Wish, LineFault, BadLine, FindsOrWants, Left, told, wish_of, all_wishes_of, wishes_octets, next as word_next}
-use Rattle.std.proofs.Common.{append_assoc, w32}
-use Rattle.std.specs.Int.{to_le_bytes}
-use Rattle.std.proofs.lemmas.Bool.{lt-leb}
+use Rattle.scenario_words.proofs.Prelude.{◌≡◌, ◌≢◌, ◌≤◌, ◌<◌, ℕ, ◌+◌, ◌-◌, ◌/◌, List, [], ◌∷◌, ◌++◌, length, Ok, Err, refl, ap, sym, ◌∙◌, arith, length-append, number-length, Wish, LineFault, BadLine, FindsOrWants, Left, told, wish_of, all_wishes_of, wishes_octets, next as word_next, append_assoc, w32, to_le_bytes, lt-leb, flat_map, subgroup_laid, group_of}
 use Rattle.std.proofs.lemmas.Grind.{flat_map-append}
-use Rattle.std.specs.List.{flat_map}
-use Rattle.bcast_base.proofs.Citable.{subgroup_laid}
 use Rattle.bcast_base.specs.Encoding.{number}
 use Rattle.bcast_base.specs.Layout.{Field, laid}
 use Rattle.bcast_base.specs.Subgroups.{subgroup, subgroup_fields}
-use Rattle.bass_operations.specs.Layout.{group_of}
 use Rattle.scenario_words.specs.Groups.{ReadsGroups, groups_octets}
 use Rattle.scenario_words.specs.Reading.{wishes_of, number_in, octets_in}
 use Rattle.scenario_words.proofs.WishWords.{wish_read, wish_fails, no_wish, all_wishes, one_longer, wishes_fit}

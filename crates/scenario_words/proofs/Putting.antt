@@ -1,8 +1,5 @@
 -- A line that is put piece by piece: what was put so far is a prefix of it, and what is left is its rest.
-use Rattle.scenario_words.proofs.Prelude.{◌≡◌, ◌<◌, ◌≤◌, ◌+◌, ◌*◌, ◌/◌, ◌%◌, ℕ, suc, List, [], ◌∷◌, ◌++◌, length, get_or, slice_index, map, take, drop, Result, refl, ap, sym, ◌∙◌, append_assoc, arith, decimal, OnErr, decimal_digit, take-append-drop, append-nil, encode_with-drop, encode_lower, lower_digits, APrefix, PutUpTo, space}
-use Rattle.std.proofs.Math.Seq.{drop-cons}
-use Rattle.std.proofs.lemmas.Slice.{take-put_mid}
-use borrow.Rule.Slice.PartMut.{put_mid}
+use Rattle.scenario_words.proofs.Prelude.{◌≡◌, ◌<◌, ◌≤◌, ◌+◌, ◌*◌, ◌/◌, ◌%◌, ℕ, suc, List, [], ◌∷◌, ◌++◌, length, get_or, slice_index, map, take, drop, Result, refl, ap, sym, ◌∙◌, append_assoc, arith, decimal, OnErr, decimal_digit, take-append-drop, append-nil, encode_with-drop, encode_lower, lower_digits, APrefix, PutUpTo, space, drop-cons, take-put_mid, put_mid}
 use Rattle.hex.specs.Hex.{encode_with}
 use Rattle.scenario_words.specs.Joined.{behind}
 use Rattle.scenario_words.specs.PrintedWords.{spelled}

@@ -1,6 +1,5 @@
 -- Two words are compared octet by octet.
-use Rattle.std.proofs.Common.{arith}
-use Rattle.scenario_words.proofs.Prelude.{◌≡◌, ◌≤◌, ◌<◌, ◌+◌, ℕ, suc, Bool, true, false, ◌&&◌, nat_eq, List, [], ◌∷◌, length, get_or, drop, refl, sym, ap, eqb-true, eq-eqb, drop_more, drop_all, bytes_eq}
+use Rattle.scenario_words.proofs.Prelude.{◌≡◌, ◌≤◌, ◌<◌, ◌+◌, ℕ, suc, Bool, true, false, ◌&&◌, nat_eq, List, [], ◌∷◌, length, get_or, drop, refl, sym, ap, eqb-true, eq-eqb, drop_more, drop_all, bytes_eq, arith}
 use Rattle.scenario_words.proofs.Splitting.{refused}
 
 and_false : (a b : Bool) → b ≡ false → (a && b) ≡ false

@@ -1,6 +1,5 @@
 -- A set of streams and its streams in rising order.
-use Rattle.scenario_words.proofs.Prelude.{◌≡◌, ◌≢◌, ◌≤◌, ◌<◌, ◌+◌, ◌-◌, ◌^◌, ℕ, zero, suc, Bool, true, false, cond, nat_eq, max, List, [], ◌∷◌, refl, ap, sym, ◌∙◌, arith, eqb-true, subst, inl, inr, bit_or, bit_at, cases_eq, cases_lt, bit_at_or, bit_at-pow_same, bit_at-pow_other, bit_at-lt, bit_at-zero, bit_at_above, same_from_bits, with_stream, Rising, with_streams, streams_from, streams_in}
-use Rattle.std.proofs.lemmas.Nat.{or_lt}
+use Rattle.scenario_words.proofs.Prelude.{◌≡◌, ◌≢◌, ◌≤◌, ◌<◌, ◌+◌, ◌-◌, ◌^◌, ℕ, zero, suc, Bool, true, false, cond, nat_eq, max, List, [], ◌∷◌, refl, ap, sym, ◌∙◌, arith, eqb-true, subst, inl, inr, bit_or, bit_at, cases_eq, cases_lt, bit_at_or, bit_at-pow_same, bit_at-pow_other, bit_at-lt, bit_at-zero, bit_at_above, same_from_bits, with_stream, Rising, with_streams, streams_from, streams_in, or_lt}
 use Rattle.std.proofs.Math.Pow.{pow-lt}
 
 abbrev chosen : Bool → ℕ → List ℕ → List ℕ

@@ -190,8 +190,7 @@ made_here mtu slot before now start (suc n) acts least most is same =
     let b : Bool = bytes_eq (value_at before start) (value_at now start) in
     let more : List Notice = changes_from before now (start + 1) n in
     let first : Acts = if b then acts else made start (state_at now start) ∷ acts in
-    ap (value_of (language mtu) slot) (first_made now b start (value_at now start) more acts)
-    ∙ elim (cases_eq start slot) [
+    ap (value_of (language mtu) slot) (first_made now b start (value_at now start) more acts) ∙ elim (cases_eq start slot) [
       | inl here ↦ grind (arith, made_elsewhere, made_this, state_at, bytes_eq, value_at)
       | inr other ↦
           made_here mtu slot before now (start + 1) n first (omega (arith, other)) (omega arith)
@@ -240,8 +239,7 @@ value_is operations states setup mtu link slot (joined at ∷ earlier) few withi
 value_is operations states setup mtu link slot (notified at ∷ earlier) few within are =
     let acts : Acts = acts_of setup mtu link earlier in
     either (λ new. value_of (language mtu) slot new ≡ value_of (language mtu) slot acts) (at == link) (notified_first (waiting_of acts) acts) acts
-    (told_value mtu slot (waiting_of acts) acts) refl
-    ∙ value_is operations states setup mtu link slot earlier few within are.1
+    (told_value mtu slot (waiting_of acts) acts) refl ∙ value_is operations states setup mtu link slot earlier few within are.1
 value_is operations states setup mtu link slot (read at ∷ earlier) few within are =
     let acts : Acts = acts_of setup mtu link earlier in
     let reads : List ℕ = reads_of (language mtu) setup.slots acts in

@@ -23,5 +23,4 @@ pub drained_agrees : Below → (setup : Setup) (mtu : Option ℕ) (link slot : �
     → is_forged link calls ≡ false → view setup mtu link slot (notified_and_read setup mtu link calls) ≡ state setup slot calls
 drained_agrees below setup mtu link slot calls few within are plain =
     agrees below setup mtu link slot (notified_and_read setup mtu link calls) few within (out_octets setup mtu link calls are) (out_forged setup mtu link calls ∙ plain)
-    (out_tells setup mtu link slot calls) (out_waits setup mtu link slot calls within)
-    ∙ out_state setup mtu link slot calls
+    (out_tells setup mtu link slot calls) (out_waits setup mtu link slot calls within) ∙ out_state setup mtu link slot calls

@@ -132,8 +132,7 @@ modify_is modify octets are is =
     let back : List ℕ = length modify.wishes ∷ wishes in
     let interval : List ℕ = number 2 modify.pa_interval ++ back in
     let all : IsOctets (3 ∷ modify.source_id ∷ modify.pa_sync ∷ interval) = subst IsOctets is.layout.encoded are in
-    let at_interval : IsOctets interval =
-    IsOctets-rest modify.pa_sync interval
+    let at_interval : IsOctets interval = IsOctets-rest modify.pa_sync interval
     (IsOctets-rest modify.source_id (modify.pa_sync ∷ interval) (IsOctets-rest 3 (modify.source_id ∷ modify.pa_sync ∷ interval) all)) in
     let at_wishes : IsOctets wishes = IsOctets-rest (length modify.wishes) wishes (octets_behind (number 2 modify.pa_interval) back at_interval) in
     record { few = is.layout.widths.wishes.0; metadata = metadata_are modify.wishes is.layout.widths.wishes.1 at_wishes }

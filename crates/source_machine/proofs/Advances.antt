@@ -1,6 +1,5 @@
 -- The streams of a source as events are laid.
-use Rattle.std.proofs.lemmas.List.Elements.{All-set}
-use Rattle.source_machine.proofs.Prelude.{ℕ, ◌≡◌, ◌<◌, ◌≤◌, ◌+◌, ◌-◌, ◌*◌, ◌^◌, List, ◌∷◌, length, length-set, get_or, set, arith, ◌∙◌, sym, subst, cases_eq, cases_lt, eq-eqb, ne_eqb, mul-le, AllZip-get_or, length_all_zip, All, AllZip, horizon_of, iso_us_of, lays, Setup, Call, event, events, framed_calls, framed_lays, laid_before, laid_with, lay_anchor, next_of, stream_calls, IsChecked, Source, Stream, StreamStands, StreamsAre, info_in, kept_of, Grows, IsLaid, IsReady, IsSource, Lays, LaysNext, Laying}
+use Rattle.source_machine.proofs.Prelude.{ℕ, ◌≡◌, ◌<◌, ◌≤◌, ◌+◌, ◌-◌, ◌*◌, ◌^◌, List, ◌∷◌, length, length-set, get_or, set, arith, ◌∙◌, sym, subst, cases_eq, cases_lt, eq-eqb, ne_eqb, mul-le, AllZip-get_or, length_all_zip, All, AllZip, horizon_of, iso_us_of, lays, Setup, Call, event, events, framed_calls, framed_lays, laid_before, laid_with, lay_anchor, next_of, stream_calls, IsChecked, Source, Stream, StreamStands, StreamsAre, info_in, kept_of, Grows, IsLaid, IsReady, IsSource, Lays, LaysNext, Laying, All-set}
 
 stream_grown : (setup : Setup) (next : ℕ) (old new : Stream) → IsReady setup next old → Grows old new → IsReady setup next new
 stream_grown setup next old new ready grows = grind arith

@@ -19,8 +19,7 @@ pub sends_stay : (setup : Setup) (call : Call) (calls : List Call) (airs others 
     → Sends setup airs event pdus → Sends setup others event pdus
 sends_stay setup call calls airs others event pdus checked are are_others least past sends = record {
   count = sends.count;
-  each = λ bis subevent bis_least bis_within below.
-      sends.each bis subevent bis_least bis_within below
+  each = λ bis subevent bis_least bis_within below. sends.each bis subevent bis_least bis_within below
       ∙ ap (λ list. pdu_of setup list event bis subevent) (airs_only setup calls airs checked are)
       ∙ sym (sent_stays setup (call ∷ []) calls event bis subevent checked.bounds.bn checked.bounds.whole_groups least past bis_least bis_within below)
       ∙ sym (ap (λ list. pdu_of setup list event bis subevent) (airs_only setup (call ∷ calls) others checked are_others));

@@ -1,9 +1,7 @@
 -- Where no row of the group check holds but that of a cipher, none holds of the group without its cipher.
-use Rattle.source_machine.proofs.Prelude.{ℕ, ◌+◌, ◌*◌, ◌≤◌, Bool, cond, eqb, refl, arith, lit<, Result, IsTrue, IsFalse, IfErr, nat_lt, ◌&&◌, IsOk, Group, BigInfo, iso_us_of, mic_octets, mpt_of, sync_delay_of, without_cipher}
+use Rattle.source_machine.proofs.Prelude.{ℕ, ◌+◌, ◌*◌, ◌≤◌, Bool, cond, eqb, refl, arith, lit<, Result, IsTrue, IsFalse, IfErr, nat_lt, ◌&&◌, IsOk, Group, BigInfo, iso_us_of, mic_octets, mpt_of, sync_delay_of, without_cipher, RangeIso, RangeSdu, RangePdu, Bn, NseNotMultiple, Irc, PhyNotSupported, FramedPduSmall, UnframedMultiple, UnframedBn, Horizon, SubInterval, SyncDelay, Encrypted}
 use Rattle.std.proofs.lemmas.Bool.Decides.{nat_tests}
 use Rattle.big_info.specs.declared.fault.GroupFault.{GroupFault}
-use Rattle.big_info.specs.declared.fault.GroupFault.TheVariants.{RangeIso, RangeSdu, RangePdu, Bn, NseNotMultiple, Irc, PhyNotSupported, FramedPduSmall, UnframedMultiple}
-use Rattle.big_info.specs.declared.fault.GroupFault.TheVariants.{UnframedBn, Horizon, SubInterval, SyncDelay, Encrypted}
 use Rattle.big_info.specs.Rows.{NoFault, IsFirstFault}
 
 longer : (one_m : Bool) (octets mic : ℕ) → cond one_m ((octets + 0 + 10) * 8) ((octets + 0 + 11) * 4) ≤ cond one_m ((octets + mic + 10) * 8) ((octets + mic + 11) * 4)

@@ -44,8 +44,7 @@ ahead_laid info bis (give stream time octets ∷ calls) some =
       | inr other ↦ rw (ne_eqb stream bis other) (ahead_laid info bis calls some)
     ]
 ahead_laid info bis (event ∷ calls) some =
-    lays_events (stream_calls info bis calls) (laid_with info calls)
-    ∙ elim (cases_eq (events calls) 0) [
+    lays_events (stream_calls info bis calls) (laid_with info calls) ∙ elim (cases_eq (events calls) 0) [
       | inl first ↦ rw (eq-eqb (events calls) 0 first, none_laid info bis calls first) (omega (arith, first))
       | inr later ↦
           let before : 1 ≤ events calls = omega (arith, later) in

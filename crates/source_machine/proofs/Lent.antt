@@ -1,9 +1,6 @@
 -- The PDUs of an event of a stream as they are lent.
-use Rattle.source_machine.proofs.Prelude.{ℕ, zero, suc, ◌≡◌, ◌<◌, ◌≤◌, ◌+◌, ◌-◌, ◌*◌, ◌/◌, ◌%◌, ◌^◌, Option, Some, None, List, [], length, get_or, set, get_or-set_other, get_or-set_same, cases_lt, map, refl, ap, sym, ◌∙◌, arith, get_or-map-range_with_len, length-map-range_with_len, mod_below, slice_get-get_or, slice_get_past, unwrap_or, All, range_with_len, slice_get, option_and_then, map_same, BigInfo, group_count, horizon_of, ahead_of, AreAirs, Air, pdu_of, Call, next_of, air_fault, IsChecked, Source, StandsFor, Stream, IsSource, IsLaid, sent_of}
-use Rattle.std.specs.List.{slice_index}
-use Rattle.std.specs.Prelude.{IsSome}
+use Rattle.source_machine.proofs.Prelude.{ℕ, zero, suc, ◌≡◌, ◌<◌, ◌≤◌, ◌+◌, ◌-◌, ◌*◌, ◌/◌, ◌%◌, ◌^◌, Option, Some, None, List, [], length, get_or, set, get_or-set_other, get_or-set_same, cases_lt, map, refl, ap, sym, ◌∙◌, arith, get_or-map-range_with_len, length-map-range_with_len, mod_below, slice_get-get_or, slice_get_past, unwrap_or, All, range_with_len, slice_get, option_and_then, map_same, BigInfo, group_count, horizon_of, ahead_of, AreAirs, Air, pdu_of, Call, next_of, air_fault, IsChecked, Source, StandsFor, Stream, IsSource, IsLaid, sent_of, slice_index, IsSome, Keeps}
 use Rattle.source_machine.specs.State.Lent.{AheadsAre, AllLent, PlacesAre, lent_at, lent_pdus}
-use Rattle.source_machine.specs.State.Streams.{Keeps}
 use Rattle.source_machine.proofs.HeardEvents.{heard}
 use Rattle.source_machine.proofs.Payloads.{ahead_within, sent_kept}
 use Rattle.source_machine.proofs.Sending.{gathered_at, gathered_count}
@@ -92,8 +89,7 @@ sends_here : (source : Source) (calls : List Call) (airs : List Air) (bis s : �
     → stream ≡ get_or source.streams (bis - 1) stream → map Some sent ≡ map (sent_of stream 0) (range_with_len 0 source.setup.info.nse) → s < source.setup.info.nse
     → (air_fault source.setup calls 0 bis s ≡ None) × (pdu_of source.setup airs (next_of source.setup calls - 1) bis s ≡ sent_of stream 0 s)
 sends_here source calls airs bis s stream sent is checked stands are least within some at lent below =
-    let there : sent_of stream 0 s ≡ Some (get_or sent s []) =
-    sym (gathered_at (sent_of stream 0) sent source.setup.info.nse s lent below)
+    let there : sent_of stream 0 s ≡ Some (get_or sent s []) = sym (gathered_at (sent_of stream 0) sent source.setup.info.nse s lent below)
     ∙ slice_get-get_or sent s [] (omega (arith, gathered_count (sent_of stream 0) sent source.setup.info.nse lent)) in
     let last : next_of source.setup calls - 1 - 0 ≡ next_of source.setup calls - 1 = omega arith in
     let both = heard source calls airs 0 bis s stream (get_or sent s []) is checked stands are least within below some (omega arith) at there in

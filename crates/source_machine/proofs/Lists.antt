@@ -41,8 +41,7 @@ pub zip_broken : {A : Type 0} (R : A → A → Type 0) (xs ys : List A) (i : ℕ
     → ((k : ℕ) (none : A) → i ≤ k → get_or ys k none ≡ get_or xs k none)
     → (item : A) → R (get_or ys i item) new → AllZip R xs (set ys i new)
 zip_broken R xs ys i new long within none_changes done same item made =
-    zip_all R xs (set ys i new) (omega (arith, length-set ys i new))
-    (λ k none below. elim (cases_lt k (i + 1)) [
+    zip_all R xs (set ys i new) (omega (arith, length-set ys i new)) (λ k none below. elim (cases_lt k (i + 1)) [
       | inl before ↦ each_done R xs ys i new within done same item made k none before
       | inr after ↦ rw (rest_same xs ys i new same k none after) (none_changes (get_or xs k none))
     ])

@@ -1,8 +1,7 @@
 -- The units of a stream take its slots in the order of acceptance.
-use Rattle.source_machine.proofs.Prelude.{ℕ, ◌≡◌, ◌<◌, ◌≤◌, ◌+◌, min, Some, List, [], ◌∷◌, ◌++◌, length, arith, ◌∙◌, ap, sym, refl, inl, inr, append_assoc, cases_eq, cases_lt, eq-eqb, ne_eqb, append-nil, none-some, slice_get_within, slice_get, BigInfo, per_event_of, before_event, unit_at, accept, lay, accepted, begun}
+use Rattle.source_machine.proofs.Prelude.{ℕ, ◌≡◌, ◌<◌, ◌≤◌, ◌+◌, min, Some, List, [], ◌∷◌, ◌++◌, length, arith, ◌∙◌, ap, sym, refl, inl, inr, append_assoc, cases_eq, cases_lt, eq-eqb, ne_eqb, append-nil, none-some, slice_get_within, slice_get, BigInfo, per_event_of, before_event, unit_at, accept, lay, accepted, begun, begun_within}
 use Rattle.circular_buffer.proofs.Places.{slice_get-append_left}
 use Rattle.isoal_unframed.specs.Calls.{Call as StreamCall, events as laid_events}
-use Rattle.isoal_unframed.proofs.Citable.{begun_within}
 
 -- what was accepted before an event is a prefix of all that was accepted
 pub prefix_accepted : (calls : List StreamCall) (e : ℕ) → (rest : List (List ℕ)) × (accepted calls ≡ accepted (before_event calls e) ++ rest)
@@ -50,8 +49,7 @@ unit_is_accepted info calls e slot unit is =
     let prefix = prefix_accepted calls e in
     ap (λ units. slice_get units (begun info (before_event calls e) + slot)) prefix.1
     ∙ slice_get-append_left (accepted (before_event calls e)) prefix.0 (begun info (before_event calls e) + slot)
-    (slice_get_within (accepted (before_event calls e)) (begun info (before_event calls e) + slot) unit is)
-    ∙ is
+    (slice_get_within (accepted (before_event calls e)) (begun info (before_event calls e) + slot) unit is) ∙ is
 
 pub units_in_order : (info : BigInfo) (calls : List StreamCall) (e slot later behind : ℕ) (unit other : List ℕ) → e < later → slot < per_event_of info
     → unit_at info calls e slot ≡ Some unit → unit_at info calls later behind ≡ Some other

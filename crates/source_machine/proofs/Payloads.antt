@@ -74,8 +74,7 @@ ahead_within info subevent some whole within = grind (arith, group_count, div-lt
 -- the event of a payload that an event carries
 carried_in : (setup : Setup) (calls : List Call) (event subevent count : ℕ) → 1 ≤ setup.info.bn
     → group_count setup.info * setup.info.bn ≡ setup.info.nse → setup.first ≤ event → event < next_of setup calls → subevent < setup.info.nse
-    → count ≡ events calls + horizon_of setup.info
-    → payload_number setup.info (event - setup.first) subevent / setup.info.bn < count
+    → count ≡ events calls + horizon_of setup.info → payload_number setup.info (event - setup.first) subevent / setup.info.bn < count
 carried_in setup calls event subevent count some whole least past within all =
     grind (arith, ahead_of, horizon_of, ahead_within, payload_number, event_of_number)
 

@@ -1,8 +1,6 @@
 -- Why a source refuses a unit, by what its stream's sender says.
-use Rattle.source_machine.specs.Faults.{announce_fault}
-use Rattle.source_machine.proofs.Prelude.{ℕ, ◌*◌, ◌^◌, ◌≡◌, ◌<◌, ◌≤◌, ◌-◌, Bool, true, false, not, Option, Some, None, List, length, get_or, arith, refl, cases_lt, eq-eqb, ne_eqb, le-leb, lt-leb, le-ltb, lt-ltb, and_from, ◌&&◌, ◌||◌, nat_le, if◌then◌else◌, iso_us_of, Air, AreAirs, waiting_of, Setup, Call, framed_calls, last_time_of, next_anchor_of, stream_calls, give_fault, has_its_time, is_above, misfit_of, of_sender, refused_unit, IsChecked, HasTime, PutStops, SenderStands, info_of, waiting_in, Source, StandsFor, Stream, StreamIs, IsFit, IsSource, limit_of, Sender}
+use Rattle.source_machine.proofs.Prelude.{ℕ, ◌*◌, ◌^◌, ◌≡◌, ◌<◌, ◌≤◌, ◌-◌, Bool, true, false, not, Option, Some, None, List, length, get_or, arith, refl, cases_lt, eq-eqb, ne_eqb, le-leb, lt-leb, le-ltb, lt-ltb, and_from, ◌&&◌, ◌||◌, nat_le, if◌then◌else◌, iso_us_of, Air, AreAirs, waiting_of, Setup, Call, framed_calls, last_time_of, next_anchor_of, stream_calls, give_fault, has_its_time, is_above, misfit_of, of_sender, refused_unit, IsChecked, HasTime, PutStops, SenderStands, info_of, waiting_in, Source, StandsFor, Stream, StreamIs, IsFit, IsSource, limit_of, Sender, announce_fault, Above, NotPast}
 use Rattle.isoal_base.specs.declared.laid.PutFault.{PutFault}
-use Rattle.isoal_framed.specs.State.Senders.{Above, NotPast}
 use Rattle.source_machine.specs.UnitFaults as unit_faults
 use Rattle.source_machine.proofs.Framings.{airs_only, info_is, waiting_is}
 use Rattle.source_machine.proofs.Standing.{stream_is}

@@ -1,6 +1,5 @@
 -- A sender that lays an event, by its framing.
-use Rattle.std.proofs.Common.{arith}
-use Rattle.source_machine.proofs.Prelude.{ℕ, ◌≡◌, ◌∷◌, List, Result, Ok, Err, ◌∙◌, ap, sym, subst, IfOk, OnOk, BigInfo, Air, Entry, unframed_air, begun, lay, framed_air, framed_air_is, one_air, Framed, Unframed}
+use Rattle.source_machine.proofs.Prelude.{ℕ, ◌≡◌, ◌∷◌, List, Result, Ok, Err, ◌∙◌, ap, sym, subst, IfOk, OnOk, BigInfo, Air, Entry, unframed_air, begun, lay, framed_air, framed_air_is, one_air, Framed, Unframed, arith}
 use Rattle.isoal_unframed.specs.Calls.{Call as PlainCall}
 use Rattle.isoal_unframed.specs.State.Sender.{Sender as PlainSender, StandsFor as PlainStands}
 use Rattle.isoal_framed.specs.Calls.{Call as TimedCall, lay as lay_at}

@@ -13,8 +13,7 @@ one_more f items item n before is = grind (arith, map-append, map, range_with_le
 pub gathered_at : {A : Type 0} (f : ℕ → Option A) (items : List A) (n i : ℕ) → map Some items ≡ map f (range_with_len 0 n) → i < n → slice_get items i ≡ f i
 gathered_at f items n i is below =
     let long : length (map f (range_with_len 0 n)) ≡ n = length-map-range_with_len f 0 n in
-    unwrapped (slice_get items i) (f i)
-    (sym (slice_get-map Some items i) ∙ ap (λ xs. slice_get xs i) is
+    unwrapped (slice_get items i) (f i) (sym (slice_get-map Some items i) ∙ ap (λ xs. slice_get xs i) is
     ∙ slice_get-get_or (map f (range_with_len 0 n)) i None (omega arith)
     ∙ ap Some (get_or-map-range_with_len f 0 n i i None (omega arith) (omega arith)))
 

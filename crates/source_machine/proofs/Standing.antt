@@ -60,8 +60,7 @@ stands_give source calls bis time limit octets old new stands least within is ac
             | inl here ↦
                 let at : bis ≡ k + 1 = omega (arith, least, here) in
                 subst (λ b. StreamIs setup (give bis time octets ∷ calls) b (get_or (set source.streams (bis - 1) new) k none)) at
-                (rw (here, get_or-set_same source.streams (bis - 1) new none (omega arith))
-                (given_is setup calls bis time octets new
+                (rw (here, get_or-set_same source.streams (bis - 1) new none (omega arith)) (given_is setup calls bis time octets new
                 (accepts.stands setup.info bis (stream_calls setup.info bis calls) (framed_calls setup bis calls) (stream_is source calls bis old stands least within is))))
             | inr other ↦ rw (get_or-set_other source.streams (bis - 1) k new none other)
                 (other_is setup calls bis (k + 1) time octets (get_or source.streams k none) (λ e. other (omega (arith, e, least))) (stands.streams k none (omega arith)))
@@ -76,8 +75,7 @@ told_is : (setup : Setup) (calls : List Call) (laying : Laying) (streams : List 
 told_is setup calls laying streams stale checked next long are tells =
     let f : ℕ → List Stale = told_by setup calls laying.anchor laying.iso_us laying.count in
     let g : ℕ → List Stale = λ bis. stale_on bis (stale_in (laid_with setup.info calls) (unwrap_or (slice_get (airs_of setup (event ∷ calls)) (bis - 1)) [])) in
-    tells setup calls checked are
-    ∙ ap (λ n. flat_map f (range_with_len 1 n)) long
+    tells setup calls checked are ∙ ap (λ n. flat_map f (range_with_len 1 n)) long
     ∙ flat_same f g 1 setup.info.num_bis (grind (arith, told_by, laid_with, lay_anchor, laid_before, stale_on, stale_in, unwrap_or, air_at, event))
 
 -- the next event was performed, where each stream laid these events

@@ -54,5 +54,4 @@ none_above set index (suc more) least fit none =
 pub indices_put : (set : ℕ) (initial now : List ℕ) (index : ℕ) → 1 ≤ index → index ≤ 32 → ((i : ℕ) → index - 1 ≤ i → i < 31 → bit_at set i ≡ 0)
     → IndicesLeft set initial now index → now ≡ initial ++ indices_words set 1 31
 indices_put set initial now index least fit none left =
-    sym (append-nil now)
-    ∙ (ap (λ (l : List ℕ). now ++ l) (sym (none_above set index (32 - index) least (omega arith) none)) ∙ left.so_far)
+    sym (append-nil now) ∙ (ap (λ (l : List ℕ). now ++ l) (sym (none_above set index (32 - index) least (omega arith) none)) ∙ left.so_far)

@@ -8,11 +8,8 @@ whole_none more = refl
 
 pub whole_append : (xs ys : List ℕ) → IsWhole xs → IsWhole ys → IsWhole (xs ++ ys)
 whole_append xs ys whole others more =
-    ap lines_of (append_assoc xs ys more)
-    ∙ whole (ys ++ more)
-    ∙ ap (λ lines. lines_of xs ++ lines) (others more)
-    ∙ sym (append_assoc (lines_of xs) (lines_of ys) (lines_of more))
-    ∙ ap (λ lines. lines ++ lines_of more) (sym (whole ys))
+    ap lines_of (append_assoc xs ys more) ∙ whole (ys ++ more) ∙ ap (λ lines. lines_of xs ++ lines) (others more)
+    ∙ sym (append_assoc (lines_of xs) (lines_of ys) (lines_of more)) ∙ ap (λ lines. lines ++ lines_of more) (sym (whole ys))
 
 -- an octet joins the first of lines, and there is one
 onto_prefix : (octet : ℕ) (line : List ℕ) (lines more : List (List ℕ)) → onto_first octet ((line ∷ lines) ++ more) ≡ onto_first octet (line ∷ lines) ++ more

@@ -9,16 +9,12 @@ use Rattle.unit_outlets.specs.Took.{OthersSame, Took, TookAt}
 use Rattle.unit_outlets.specs.declared.fault.OutletFault.{OutletFault}
 
 pub took_at : {A : Type 0} (account : A → Account) (boxes : List A) (place : ℕ) (unit : List ℕ) (old new : A)
-    (result : Result (Unit {0}) OutletFault)
-    → place < length boxes
-    → old ≡ get_or boxes place old
-    → Took unit (account old) (account new) result
-    → TookAt place unit (map account boxes) (map account (slice_set boxes place new)) result
+    (result : Result (Unit {0}) OutletFault) → place < length boxes → old ≡ get_or boxes place old
+    → Took unit (account old) (account new) result → TookAt place unit (map account boxes) (map account (slice_set boxes place new)) result
 took_at account boxes place unit old new result inside at took = record {
   before = account old;
   after = account new;
-  here = slice_get-map account boxes place
-      ∙ ap (option_map account) (slice_get_read boxes (length boxes) place old refl inside at);
+  here = slice_get-map account boxes place ∙ ap (option_map account) (slice_get_read boxes (length boxes) place old refl inside at);
   others = map-set account boxes place new;
   took = took;
 }

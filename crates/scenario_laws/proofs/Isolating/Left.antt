@@ -35,8 +35,7 @@ quiet : (n : ℕ) (step : Step) → is_other n (sink_in step) ≡ true → Quiet
 quiet n this other = grind (arith, false≢true)
 
 pub another_sink : (airs : Airs) (s n : ℕ) (step : Step) (made : List Step) → is_other n (sink_in step) ≡ true → Leaves airs s n step made
-another_sink airs s n this made other =
-    grind (arith, quiet, said_stays, false≢true)
+another_sink airs s n this made other = grind (arith, quiet, said_stays, false≢true)
 
 -- ---- a line that means another source, and puts the sink on no train and no group, changes nothing of the sink and of the source
 

@@ -52,8 +52,7 @@ short airs boxes offer made legal none = grind (arith, neither, not, length, ltb
 
 pub unless_legal : (airs : Airs) (boxes : ℕ) (reason : Option Refusal) (offer : Offer) (made : List Step) → AreLegal airs boxes made
     → Runs made → dropped_for airs offer made ≡ reason → AreLegal airs boxes (with_relayed_unit_unless reason offer made)
-unless_legal airs boxes reason offer made legal runs is =
-    grind (arith, short, chosen_of, chosen_below, neither, not, fails_not)
+unless_legal airs boxes reason offer made legal runs is = grind (arith, short, chosen_of, chosen_below, neither, not, fails_not)
 
 all_legal : (airs : Airs) (boxes : ℕ) (offers : List Offer) (made : List Step) → AreLegal airs boxes made → Runs made
     → AreLegal airs boxes (after_offers airs offers made)

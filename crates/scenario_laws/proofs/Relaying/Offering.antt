@@ -304,8 +304,7 @@ offered_numbered order airs meets boxes n bis to (step ∷ earlier) legal within
           let way = way_of bis to (relay_of n (step ∷ after_relays)) (ap (is_route bis to) relay ∙ parts.0) in
           let clean_now : injected_since (is_made n) n (step ∷ after_relays) ≡ false = cc (close_injects n earlier after_relays step parts.1, injected_offers airs n (offers_before airs made step) made, injected_happened airs n earlier) in
           numbered_end octets (units_on bis (of_sink 0 n (handed_since (is_made n) airs (step ∷ after_relays)))) (offered airs n bis to said)
-          (ends_with airs boxes n bis to said legal within way.route way.is way.goes)
-          (search (numbered_since, happens_legally, in_range))
+          (ends_with airs boxes n bis to said legal within way.route way.is way.goes) (search (numbered_since, happens_legally, in_range))
       | inr not ↦ elim (contains_cases step earlier (Step.Relay n bis to) within) [
         | inl is ↦
             let free : had_relay to earlier ≡ false =
@@ -370,5 +369,4 @@ relayed_units law order boxes airs meets said legal n bis to within least greate
     framed clean in
     in_first_order (given bis (source_calls (steps_of_source 0 made))) (offered airs n bis to said)
     (offered_numbered order airs meets boxes n bis to said legal within least greatest first_clean) (setup_of (steps_of_source 1 made)) to
-    (shown_since (is_made m) airs 1 m to made)
-    (grind (arith, in_relay_order, air_in, steps_of_source, shown_since, is_made))
+    (shown_since (is_made m) airs 1 m to made) (grind (arith, in_relay_order, air_in, steps_of_source, shown_since, is_made))

@@ -126,8 +126,7 @@ announced_calm laws airs boxes n earlier legal none m made names is =
     group_within airs boxes (chosen_of earlier) earlier legal started in
     let horizon : made.setup.horizon ≡ horizon_in (version_of earlier) = grind (
       arith,
-      (subst (λ one. HasHorizon one (horizon_in
-          (version_of earlier))) is (horizon_made airs boxes m earlier legal)),
+      (subst (λ one. HasHorizon one (horizon_in (version_of earlier))) is (horizon_made airs boxes m earlier legal)),
     ) in
     outcome_near made.setup (snapshot_in made (calls_made m earlier)) (own_train (source_at earlier))
     (reads_near made.setup (announced_of own) (own_train (source_at earlier)) (identity_of own).broadcast_id (base_of own)

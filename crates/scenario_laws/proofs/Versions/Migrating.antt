@@ -153,8 +153,4 @@ pub migration_law_holds : Laws → OneTranscript → MeetAirs airs_of → (start
 migration_law_holds laws one meet starts airs others meets meet_too text lasting =
     let alike : LinesAlike starts (lines_of true text) (lines_of true (migrated text)) =
     text_alike laws starts text (lasting_over one meet airs starts text meets lasting) in
-    record {
-      octets = grind (arith, airs_of);
-      end = grind (arith, airs_of);
-      units = grind (arith, airs_of);
-    }
+    record { octets = grind (arith, airs_of); end = grind (arith, airs_of); units = grind (arith, airs_of) }

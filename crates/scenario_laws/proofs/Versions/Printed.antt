@@ -89,8 +89,7 @@ drains_same label link wider made calls is =
     let reads : reads_waiting it.setup made.mtu link (notified_out it.setup made.mtu link served) ≡ reads_waiting made.setup made.mtu link notified =
     ap (reads_waiting it.setup made.mtu link) now ∙ its_reads link wider made notified is_told in
     (λ i. serve_lines label it link count calls ++ tell_lines label it link (length (heard i)) served
-    ++ read_lines label it link (length (reads i)) (now i))
-    ∙ (search (serves_same, tells_same, reads_lines_same, length, reads_waiting))
+    ++ read_lines label it link (length (reads i)) (now i)) ∙ (search (serves_same, tells_same, reads_lines_same, length, reads_waiting))
 
 -- ---- states and views
 

@@ -41,15 +41,13 @@ unit_lasts own bis time octets =
     (sym (ap₂ (λ setup calls. option_map give_refusal (give_fault setup calls (airs_of setup calls) bis time octets)) (setup_same own)
     (calls_same own)
     ∙ ap (λ airs. option_map give_refusal (give_fault (with_ahead ahead (setup_of own)) (source_calls own) airs bis time octets))
-    (airs_same ahead (setup_of own) (source_calls own))))
-    (grind (
+    (airs_same ahead (setup_of own) (source_calls own)))) (grind (
       arith,
       option_map,
       give_refusal,
       ltb,
       with_ahead,
-      (ahead_stays (version_of own) (version_of (seconds own))
-          (is_later own)),
+      (ahead_stays (version_of own) (version_of (seconds own)) (is_later own)),
     ))
 
 -- ---- a step of a source
@@ -114,6 +112,5 @@ step_lasts boxes made step calm =
       same,
       twin_same,
       unbegun_same,
-    ))
-    (or_lasts ended _ _ (or_lasts order _ _ (or_lasts sink _ _
+    )) (or_lasts ended _ _ (or_lasts order _ _ (or_lasts sink _ _
     (lasts_or here later twin (source_lasts (version_of made) (version_of (seconds made)) (chosen_steps made) step (is_later made))))))

@@ -1,6 +1,4 @@
-use Rattle.bass_operations.proofs.Prelude.{◌≡◌, ℕ, ◌+◌, ◌-◌, ◌<◌, ◌≤◌, List, [], ◌∷◌, length, get_or, take, drop, Some, None, refl, sym, ap, arith, take_all, le-ltb, number_in, octets_in}
-use Rattle.std.specs.Prelude.{◌*◌}
-use Rattle.bcast_base.specs.Numbers.{sum_from}
+use Rattle.bass_operations.proofs.Prelude.{◌≡◌, ℕ, ◌+◌, ◌-◌, ◌<◌, ◌≤◌, List, [], ◌∷◌, length, get_or, take, drop, Some, None, refl, sym, ap, arith, take_all, le-ltb, number_in, octets_in, ◌*◌, sum_from}
 use Rattle.bass_operations.specs.Reading.{add_head_in}
 use Rattle.bass_operations.proofs.Heads.{octets_again_at}
 use Rattle.bass_operations.proofs.reading.add_head.Goals as goal

@@ -1,6 +1,4 @@
-use Rattle.bass_operations.proofs.Prelude.{◌≡◌, ℕ, ◌+◌, ◌-◌, ◌<◌, ◌≤◌, List, [], ◌∷◌, length, get_or, take, drop, Some, None, refl, sym, ap, arith, take_all, le-ltb, number_in}
-use Rattle.std.specs.Prelude.{◌*◌}
-use Rattle.bcast_base.specs.Numbers.{sum_from}
+use Rattle.bass_operations.proofs.Prelude.{◌≡◌, ℕ, ◌+◌, ◌-◌, ◌<◌, ◌≤◌, List, [], ◌∷◌, length, get_or, take, drop, Some, None, refl, sym, ap, arith, take_all, le-ltb, number_in, ◌*◌, sum_from}
 use Rattle.bass_operations.specs.Reading.{modify_head_in}
 use Rattle.bass_operations.proofs.reading.modify_head.Goals as goal
 

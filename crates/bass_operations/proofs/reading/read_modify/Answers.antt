@@ -1,5 +1,4 @@
-use Rattle.std.specs.Option.{option_or}
-use Rattle.bass_operations.proofs.Prelude.{arith, sym, ◌∙◌, ap, err_from_is_err_and, reserved_in}
+use Rattle.bass_operations.proofs.Prelude.{arith, sym, ◌∙◌, ap, err_from_is_err_and, reserved_in, option_or}
 use Rattle.bass_operations.specs.Reading.{wishes_in}
 use Rattle.bass_operations.specs.Scanning.{twice_in}
 use Rattle.bass_operations.proofs.Read.{behind, modify_no_head, modify_is, modify_wants, modify_tail, finds, done}

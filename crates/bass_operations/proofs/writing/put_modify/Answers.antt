@@ -1,5 +1,4 @@
-use Rattle.std.proofs.Common.{◌∙◌, append_assoc, arith}
-use Rattle.std.proofs.lemmas.Result.{on_ok_weaker}
+use Rattle.bass_operations.proofs.Prelude.{◌∙◌, append_assoc, arith, on_ok_weaker}
 use Rattle.bass_operations.proofs.writing.put_modify.Goals as goal
 
 pub returns-clause-fields : goal.returns-clause-fields

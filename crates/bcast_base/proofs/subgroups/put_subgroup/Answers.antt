@@ -1,6 +1,5 @@
 use Rattle.std.proofs.lemmas.Result.{on_ok_weaker}
-use Rattle.std.specs.Int.{w32, to_le_bytes}
-use Rattle.bcast_base.proofs.Prelude.{◌≡◌, ℕ, List, [], ◌∷◌, ◌++◌, ◌∙◌, length, get_or, ap, append_assoc, arith, subgroup}
+use Rattle.bcast_base.proofs.Prelude.{◌≡◌, ℕ, List, [], ◌∷◌, ◌++◌, ◌∙◌, length, get_or, ap, append_assoc, arith, subgroup, w32, to_le_bytes}
 use Rattle.bcast_base.proofs.Fields.{one_by_one}
 use Rattle.bcast_base.proofs.subgroups.put_subgroup.Goals as goal
 

@@ -1,5 +1,4 @@
-use Rattle.bcast_io.proofs.Prelude.{rules, take_rest}
-use Rattle.std.proofs.lemmas.Result.{err_from_is_err_and}
+use Rattle.bcast_io.proofs.Prelude.{rules, take_rest, err_from_is_err_and}
 use Rattle.bcast_io.proofs.Transfers.{Appends-kept, Appends-more, AppendsPrefix-cut, AppendsShort-cut}
 use Rattle.bcast_io.proofs.whole.write_whole.Goals as goal
 

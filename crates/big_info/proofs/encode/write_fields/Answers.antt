@@ -4,8 +4,7 @@ use Rattle.big_info.proofs.encode.write_fields.Goals as goal
 
 pub returns-clause-rest : goal.returns-clause-rest
 returns-clause-rest c =
-    c.put_word-9.ensures.rest
-    ∙ drop_later 28 33 c.put_word-8.new.into c.put_word-7.new.into (omega arith) c.put_word-8.ensures.rest
+    c.put_word-9.ensures.rest ∙ drop_later 28 33 c.put_word-8.new.into c.put_word-7.new.into (omega arith) c.put_word-8.ensures.rest
     ∙ drop_later 23 33 c.put_word-7.new.into c.put_word-6.new.into (omega arith) c.put_word-7.ensures.rest
     ∙ drop_later 21 33 c.put_word-6.new.into c.put_word-5.new.into (omega arith) c.put_word-6.ensures.rest
     ∙ drop_later 17 33 c.put_word-5.new.into c.put_word-4.new.into (omega arith) c.put_word-5.ensures.rest

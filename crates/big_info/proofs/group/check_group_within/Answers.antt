@@ -1,5 +1,4 @@
-use Rattle.std.proofs.Common.{arith}
-use Rattle.big_info.proofs.Prelude.{refl, NoFault}
+use Rattle.big_info.proofs.Prelude.{refl, NoFault, arith}
 use Rattle.big_info.proofs.BoundsOf.{bounds_of}
 use Rattle.big_info.proofs.Order.{first_found, none_found, no_fault_within}
 use Rattle.big_info.proofs.group.check_group_within.Goals as goal

@@ -12,8 +12,7 @@ take_of-taking-requires c = record {
 pub push-requires : goal.push-requires
 push-requires c =
     let streams : List ℕ = candidates c.args.capability.now c.args.base.now c.args.num_bis c.item.result.now.bis_sync c.subgroup.result.now in
-    subst (λ bits. bits < 2 ^ 31) (sym c.take_of-taking.ensures.bits)
-    (set_below 31 0 (take c.subgroups.room streams) (pow_pos 31)
+    subst (λ bits. bits < 2 ^ 31) (sym c.take_of-taking.ensures.bits) (set_below 31 0 (take c.subgroups.room streams) (pow_pos 31)
     (taken_below 31 c.subgroups.room streams
     (candidates_small c.args.capability.now c.args.base.now c.args.num_bis c.item.result.now.bis_sync c.subgroup.result.now c.requires)))
 

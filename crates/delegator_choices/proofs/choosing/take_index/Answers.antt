@@ -15,7 +15,6 @@ returns c all first leads =
     let same : c.in-Some.bis ≡ c.args.index = omega (arith, c.in-Some.ensures) in
     let passes : test c.args.index ≡ true = ap test (sym same) ∙ sym c.is_candidate.ensures ∙ c.if-not-is_candidate.false in
     leads_with all first c.args.taking c.with_stream.result c.args.index (left_of c.args.choice.now (c.args.index + 1))
-    c.with_stream.ensures.room
-    (c.with_stream.ensures.which ∙ ap (λ bis. with_one c.args.taking.room bis c.args.taking.which) same)
+    c.with_stream.ensures.room (c.with_stream.ensures.which ∙ ap (λ bis. with_one c.args.taking.room bis c.args.taking.which) same)
     (c.with_stream.ensures.bits ∙ ap (λ bis. with_one c.args.taking.room bis c.args.taking.bits) same)
     (subst (λ (rest : List ℕ). Leads all first rest c.args.taking) (left_yes test c.args.index c.requires.greatest passes) leads)

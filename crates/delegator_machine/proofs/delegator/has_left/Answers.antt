@@ -1,4 +1,4 @@
-use Rattle.std.proofs.Common.{refl}
+use Rattle.delegator_machine.proofs.Prelude.{refl}
 use Rattle.delegator_machine.proofs.delegator.has_left.Goals as goal
 
 pub returns-then-was : goal.returns-then-was

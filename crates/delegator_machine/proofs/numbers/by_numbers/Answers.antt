@@ -1,4 +1,4 @@
-use Rattle.std.proofs.Common.{refl}
+use Rattle.delegator_machine.proofs.Prelude.{refl}
 use Rattle.delegator_machine.proofs.numbers.by_numbers.Goals as goal
 
 pub returns : goal.returns

@@ -1,10 +1,8 @@
-use Rattle.explain_command.proofs.Prelude.{◌≡◌, ◌∙◌, ap, sym, subst, map, Some, Ok, Err, DocumentIs, lines_at, told_at, told_world}
+use Rattle.explain_command.proofs.Prelude.{◌≡◌, ◌∙◌, ap, sym, subst, map, Some, Ok, Err, DocumentIs, lines_at, told_at, told_world, lines_over, standing_by, document_told, prefix_read, read_at, whole_is}
 use Rattle.bcast_io.specs.declared.document.Document.TheVariants.{Whole, TooLong}
 use Rattle.bcast_io.specs.declared.piece.Unread.TheVariants.{Failed, Memory}
 use Rattle.replay_steps.specs.Unassigned.{UnassignedBy}
-use Rattle.replay_lines.specs.Standing.{lines_over, standing_by}
 use Rattle.replay_lines.specs.declared.cause.Cause.TheVariants as causes
-use Rattle.replay_lines.proofs.Citable.{document_told, prefix_read, read_at, whole_is}
 use Rattle.scenario_toml.specs.Document.{meaning_of}
 use Rattle.explain_command.proofs.Documents.{told_refused, told_text, told_unread, told_wanting}
 use Rattle.explain_command.proofs.document.explain_toml.Goals as goal

@@ -1,5 +1,4 @@
-use Rattle.explain_command.proofs.Prelude.{told_at}
-use Rattle.explained_rows.proofs.Citable.{keeps_then}
+use Rattle.explain_command.proofs.Prelude.{told_at, keeps_then}
 use Rattle.explain_command.proofs.document.refuse.Goals as goal
 
 pub returns : goal.returns

@@ -11,8 +11,7 @@ returns-in-Lines g c =
     (told_world (g.S.ByteSource.left c.args.source.now) (g.S.ByteSource.faults c.args.source.now) g.W.ByteSink.contents g.W.ByteSink.faults
     c.args.sink.now boxes)
     (told_world (g.S.ByteSource.left c.explain.new.source) (g.S.ByteSource.faults c.explain.new.source) g.W.ByteSink.contents g.W.ByteSink.faults
-    c.explain.new.sink behind)
-    (lines_at c.args.sink.now.place (g.W.ByteSink.contents c.args.sink.now.inner))
+    c.explain.new.sink behind) (lines_at c.args.sink.now.place (g.W.ByteSink.contents c.args.sink.now.inner))
     (lines_at c.explain.new.sink.place (g.W.ByteSink.contents c.explain.new.sink.inner)) (Ended c.explain.result) in
     subst P (sym c.in-Lines.is) (record { ending = c.explain.result; is = refl; told = c.explain.ensures.told })
 
@@ -24,7 +23,6 @@ returns-in-Toml g c =
     (told_world (g.S.ByteSource.left c.args.source.now) (g.S.ByteSource.faults c.args.source.now) g.W.ByteSink.contents g.W.ByteSink.faults
     c.args.sink.now boxes)
     (told_world (g.S.ByteSource.left c.explain_toml.new.source) (g.S.ByteSource.faults c.explain_toml.new.source) g.W.ByteSink.contents g.W.ByteSink.faults
-    c.explain_toml.new.sink behind)
-    (lines_at c.args.sink.now.place (g.W.ByteSink.contents c.args.sink.now.inner))
+    c.explain_toml.new.sink behind) (lines_at c.args.sink.now.place (g.W.ByteSink.contents c.args.sink.now.inner))
     (lines_at c.explain_toml.new.sink.place (g.W.ByteSink.contents c.explain_toml.new.sink.inner)) c.of_document.result in
     subst P (sym c.in-Toml.is) (record { ended = c.explain_toml.result; is = c.of_document.ensures; told = c.explain_toml.ensures.told })

@@ -1,6 +1,4 @@
-use Rattle.std.proofs.Common.{◌≡◌, List, [], ◌∷◌, length, replicate, slice_set, refl, arith}
-use Rattle.isoal_unframed.specs.declared.cell.Cell.{Cell}
-use Rattle.isoal_unframed.specs.declared.cell.Cell.TheVariants.{Empty}
+use Rattle.isoal_unframed.proofs.Prelude.{◌≡◌, List, [], ◌∷◌, length, replicate, slice_set, refl, arith, Cell, Empty}
 use Rattle.isoal_unframed.proofs.ring.empty.Goals as goal
 
 one_emptied : (cells : List Cell) → length cells ≡ 1 → slice_set cells 0 Empty ≡ replicate (length cells) Empty

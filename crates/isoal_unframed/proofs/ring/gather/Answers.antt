@@ -12,8 +12,5 @@ places-preserved c =
       together = omega arith;
       unit = gather_more c.args.max_pdu c.args.max_sdu c.places.len c.places.from c.from-count.result c.in-Fragment.part c.places.cell-index
           c.args.cells.now c.places.block c.move_down.new.block c.places-test.true c.in-Fragment.is c.from-count.ensures
-          fits_count c.places.invariant.together
-          (grind (arith, place_room))
-          c.move_down.ensures.octets
-          ∙ c.places.invariant.unit;
+          fits_count c.places.invariant.together (grind (arith, place_room)) c.move_down.ensures.octets ∙ c.places.invariant.unit;
     }

@@ -12,5 +12,4 @@ places-preserved c =
     ap (λ pdus. pdus ++ slot_pdus max_pdu count rest) c.in_ok-push_payload.ensures.ok
     ∙ append_assoc c.places.pdus (pdu ∷ []) (slot_pdus max_pdu count rest)
     ∙ ap (λ pdus. c.places.pdus ++ pdus) (sym (c.next_pdu-next.ensures.goes count))
-    ∙ ap (λ n. c.places.pdus ++ slot_pdus max_pdu n (option_copied c.places.left)) (sym turns)
-    ∙ c.places.invariant
+    ∙ ap (λ n. c.places.pdus ++ slot_pdus max_pdu n (option_copied c.places.left)) (sym turns) ∙ c.places.invariant

@@ -1,5 +1,4 @@
-use Rattle.pacs_records.proofs.Prelude.{◌∙◌, sym, last_reason}
-use Rattle.std.proofs.lemmas.List.{at_drop_more}
+use Rattle.pacs_records.proofs.Prelude.{◌∙◌, sym, last_reason, at_drop_more}
 use Rattle.pacs_records.proofs.matching.first_that_fits.Goals as goal
 
 pub loop-entry-preserved : goal.loop-entry-preserved

@@ -1,14 +1,5 @@
-use Rattle.std.proofs.Common.{◌≡◌, ◌∙◌, ℕ, true, List, length, None, Result, Ok, Err, refl, sym}
-use Rattle.std.proofs.lemmas.Bool.{le-ltb}
-use Rattle.std.specs.Prelude.{◌==◌, if◌then◌else◌}
-use Rattle.std.specs.Result.{result_err}
-use Rattle.bcast_base.specs.Reading.{place_in}
-use Rattle.bcast_base.specs.Tries.{◌>>=◌}
-use Rattle.pacs_records.specs.Layout.{greatest_value}
+use Rattle.pacs_records.proofs.Prelude.{◌≡◌, ◌∙◌, ℕ, true, List, length, None, Result, Ok, Err, refl, sym, le-ltb, ◌==◌, if◌then◌else◌, result_err, place_in, ◌>>=◌, greatest_value, PacFault, Trailing, PacRecord}
 use Rattle.pacs_records.specs.Reading.{rest_of, value_in}
-use Rattle.pacs_records.specs.declared.fault.PacFault.{PacFault}
-use Rattle.pacs_records.specs.declared.fault.PacFault.TheVariants.{Trailing}
-use Rattle.pacs_records.specs.declared.record.PacRecord.{PacRecord}
 use Rattle.pacs_records.proofs.reading.check_value.Goals as goal
 
 none_left : (octets rest : List ℕ) (read : Result (List PacRecord × List ℕ) PacFault) → rest_of read ≡ Ok rest → true ≡ (length rest == 0)

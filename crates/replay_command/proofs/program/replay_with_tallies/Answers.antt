@@ -17,8 +17,7 @@ boxes-preserved g c =
     ap (map (λ z. (own-1.entry z.vtable).1.account z.value)) c.in-Ok-push.ensures.items
     ∙ map-append (λ z. (own-1.entry z.vtable).1.account z.value) c.boxes.outlets.items (box ∷ [])
     ∙ ap (λ l. l ++ (own-1.entry box.vtable).1.account box.value ∷ []) c.boxes.invariant
-    ∙ ap (λ a. replicate c.boxes.counter (fresh true 0 None) ++ a ∷ []) one
-    ∙ replicate_more c.boxes.counter (fresh true 0 None)
+    ∙ ap (λ a. replicate c.boxes.counter (fresh true 0 None) ++ a ∷ []) one ∙ replicate_more c.boxes.counter (fresh true 0 None)
 
 pub returns-clause-promised : goal.returns-clause-promised
 returns-clause-promised g c =

@@ -16,8 +16,7 @@ pub words-preserved : goal.words-preserved
 words-preserved c =
     ap (λ ws. ws ++ into_iter_items c.next-in-words.new.self) c.in-Ok.ensures.ok
     ∙ append_assoc c.words.words (c.in-Some.word ∷ []) (into_iter_items c.next-in-words.new.self)
-    ∙ ap (λ ws. c.words.words ++ ws) (sym c.in-Some.ensures.steps.0)
-    ∙ c.words.invariant
+    ∙ ap (λ ws. c.words.words ++ ws) (sym c.in-Some.ensures.steps.0) ∙ c.words.invariant
 
 pub returns : goal.returns
 returns c =

@@ -14,11 +14,9 @@ returns-clause-generated g c =
       units = λ starts lines. c.one_transcript.ensures.units airs_of airs starts lines c.some_airs_meet.ensures meets;
       accepted = λ starts lines. c.one_transcript.ensures.accepted airs_of airs starts lines c.some_airs_meet.ensures meets;
       handed = λ starts lines line. c.one_transcript.ensures.handed airs_of airs starts lines line c.some_airs_meet.ensures meets;
-    })
-    c.run.ensures.ends
+    }) c.run.ensures.ends
 
 pub returns-clause-unassigned : goal.returns-clause-unassigned
 returns-clause-unassigned g c airs meets =
     unassigned_run airs (map (λ b. (goal.Outlet-dyn g (b.vtable, b.value)).account b.value) c.args.outlets.now.items) (lines_made c.args.seed c.args.events) _ _
-    (grind (arith, airs_of, map))
-    c.run.ensures.unassigned
+    (grind (arith, airs_of, map)) c.run.ensures.unassigned

@@ -32,8 +32,7 @@ lines-preserved g c =
       running = runs_on c.lines.invariant.running comes.line c.next_of.new.lines comes.next
           c.run_line.new.outlets.items (map (λ b. (goal.Outlet-dyn g (b.vtable, b.value)).account b.value) c.run_line.new.outlets.items)
           c.run_line.new.machine c.run_line.new.counts (c.lines.number + 1) c.run_line.result refl c.in-None.is
-          (c.run_line.ensures.unassigned starts)
-          (λ history number run. c.run_line.ensures.runs starts history comes.line number is run);
+          (c.run_line.ensures.unassigned starts) (λ history number run. c.run_line.ensures.runs starts history comes.line number is run);
       bound = omega (arith, c.lines.invariant.bound, ap length comes.next);
     }
 

@@ -10,9 +10,7 @@ added old new arg app rule adds local was is = adds.shape local ∙ ap (λ a. wi
 
 pub returns : goal.returns
 returns c =
-    added _ _ _ _ _ c.in_ok-command.ensures c.flag-2.ensures.local
-    (added _ _ _ _ _ c.in_ok-arg-3.ensures c.flag.ensures.local
+    added _ _ _ _ _ c.in_ok-command.ensures c.flag-2.ensures.local (added _ _ _ _ _ c.in_ok-arg-3.ensures c.flag.ensures.local
     (added _ _ _ _ _ c.in_ok-arg-2.ensures c.value_option-2.ensures.local
     (added _ _ _ _ _ c.in_ok-arg.ensures c.value_option.ensures.local c.bare_command.ensures c.value_option.ensures.rule) c.value_option-2.ensures.rule)
-    c.flag.ensures.rule)
-    c.flag-2.ensures.rule
+    c.flag.ensures.rule) c.flag-2.ensures.rule

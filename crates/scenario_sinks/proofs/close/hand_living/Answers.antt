@@ -14,5 +14,4 @@ returns-clause-hands g c box made own calls_made received entry mine outlet empt
     c.args.text.now c.hand_gathered.new.text _ _ _ was mine outlet
     (gathered_are (calls_of c.args.gathered.now) (calls_of c.tick.new.taker) _ empty
     (c.in-Ok.ensures.hands (histories_of was.how own calls_made received) was.lives))
-    c.hand_gathered.ensures.hands refl (c.in-Ok.ensures.lives (histories_of was.how own calls_made received) was.lives)
-    (search rules)
+    c.hand_gathered.ensures.hands refl (c.in-Ok.ensures.lives (histories_of was.how own calls_made received) was.lives) (search rules)

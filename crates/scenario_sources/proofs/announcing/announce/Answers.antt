@@ -1,5 +1,4 @@
-use Rattle.std.proofs.Common.{arith}
-use Rattle.scenario_sources.proofs.Prelude.{source_calls}
+use Rattle.scenario_sources.proofs.Prelude.{source_calls, arith}
 use Rattle.scenario_sources.proofs.Trains.{announces, announces_no_more}
 use Rattle.scenario_sources.proofs.announcing.announce.Goals as goal
 

@@ -1,4 +1,4 @@
-use Rattle.std.proofs.Common.{arith}
+use Rattle.scenario_sources.proofs.Prelude.{arith}
 use Rattle.scenario_sources.proofs.Phasing.{encrypted_twice, encrypts}
 use Rattle.scenario_sources.proofs.describing.encrypt.Goals as goal
 

@@ -1,5 +1,4 @@
-use Rattle.std.proofs.Common.{arith}
-use Rattle.scenario_sources.proofs.Prelude.{sym, ◌∙◌}
+use Rattle.scenario_sources.proofs.Prelude.{sym, ◌∙◌, arith}
 use Rattle.scenario_sources.proofs.Phasing.{coded, gives, none_of}
 use Rattle.scenario_sources.proofs.sending.give.Goals as goal
 

@@ -1,5 +1,4 @@
-use Rattle.std.proofs.Common.{arith}
-use Rattle.scenario_sources.proofs.Prelude.{airs_of, airs_exist}
+use Rattle.scenario_sources.proofs.Prelude.{airs_of, airs_exist, arith}
 use Rattle.scenario_sources.proofs.Phasing.{gives_not}
 use Rattle.scenario_sources.proofs.sending.give_to.Goals as goal
 

@@ -1,7 +1,4 @@
-use Rattle.std.proofs.Common.{arith}
-use Rattle.scenario_sources.proofs.Prelude.{◌≡◌, ◌∷◌, ◌∙◌, ap, sym, is_some, false, airs_of, event, airs_exist, is_ciphered, source_calls}
-use Rattle.source_machine.specs.Faults.{event_fault}
-use Rattle.scenario_history.specs.Refusals.{counter_ends}
+use Rattle.scenario_sources.proofs.Prelude.{◌≡◌, ◌∷◌, ◌∙◌, ap, sym, is_some, false, airs_of, event, airs_exist, is_ciphered, source_calls, arith, event_fault, counter_ends}
 use Rattle.scenario_sources.proofs.Phasing.{closed_is, coded, left_out, none_of}
 use Rattle.scenario_sources.proofs.sending.perform.Goals as goal
 

@@ -1,5 +1,4 @@
-use Rattle.std.proofs.Common.{arith}
-use Rattle.scenario_sources.proofs.Prelude.{sym, ◌∙◌, source_calls}
+use Rattle.scenario_sources.proofs.Prelude.{sym, ◌∙◌, source_calls, arith}
 use Rattle.scenario_sources.proofs.Phasing.{coded, relays_not}
 use Rattle.scenario_sources.proofs.sending.relayed_in.Goals as goal
 

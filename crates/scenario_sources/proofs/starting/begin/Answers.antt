@@ -1,5 +1,4 @@
-use Rattle.std.proofs.Common.{arith}
-use Rattle.scenario_sources.proofs.Prelude.{is_described}
+use Rattle.scenario_sources.proofs.Prelude.{is_described, arith}
 use Rattle.scenario_sources.proofs.Starts.{begin_stops, is_not_other}
 use Rattle.scenario_sources.proofs.starting.begin.Goals as goal
 

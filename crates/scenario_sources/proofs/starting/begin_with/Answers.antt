@@ -1,5 +1,4 @@
-use Rattle.scenario_sources.proofs.Prelude.{◌∙◌, ap}
-use Rattle.source_machine.specs.Setups.{Configured, started}
+use Rattle.scenario_sources.proofs.Prelude.{◌∙◌, ap, Configured, started}
 use Rattle.scenario_sources.proofs.Starts.{begins, finish_fails, group_fails}
 use Rattle.scenario_sources.proofs.starting.begin_with.Goals as goal
 

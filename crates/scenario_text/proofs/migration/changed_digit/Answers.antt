@@ -1,5 +1,4 @@
-use Rattle.scenario_text.proofs.Prelude.{arith, not, sym, ◌∙◌}
-use Rattle.std.proofs.lemmas.List.{take_rest}
+use Rattle.scenario_text.proofs.Prelude.{arith, not, sym, ◌∙◌, take_rest}
 use Rattle.scenario_text.proofs.MigratedLines.{digit_after, digit_before, ends_blank, ends_same, goes_on, place_within}
 use Rattle.scenario_text.proofs.migration.changed_digit.Goals as goal
 

@@ -1,6 +1,4 @@
-use Rattle.scenario_text.proofs.Prelude.{ℕ, ◌≡◌, List, [], ◌∷◌, Some}
-use Rattle.std.specs.Prelude.{◌==◌}
-use Rattle.std.specs.List.{slice_get}
+use Rattle.scenario_text.proofs.Prelude.{ℕ, ◌≡◌, List, [], ◌∷◌, Some, ◌==◌, slice_get}
 use Rattle.scenario_text.specs.Migrated.{is_blank}
 use Rattle.scenario_text.proofs.migration.is_blank.Goals as goal
 

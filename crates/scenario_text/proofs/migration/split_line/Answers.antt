@@ -1,5 +1,4 @@
-use Rattle.scenario_text.proofs.Prelude.{◌+◌, add-one}
-use Rattle.std.proofs.lemmas.List.{take_rest}
+use Rattle.scenario_text.proofs.Prelude.{◌+◌, add-one, take_rest}
 use Rattle.scenario_text.proofs.MigratedLines.{no_end, first_end}
 use Rattle.scenario_text.proofs.migration.split_line.Goals as goal
 

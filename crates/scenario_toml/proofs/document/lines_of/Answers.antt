@@ -1,6 +1,5 @@
-use Rattle.scenario_toml.proofs.Prelude.{◌≡◌, IfOk, ◌∙◌, sym, subst}
+use Rattle.scenario_toml.proofs.Prelude.{◌≡◌, IfOk, ◌∙◌, sym, subst, lines}
 use Rattle.std.proofs.lemmas.Bool.{false≢true}
-use Rattle.scenario_toml.specs.Document.{lines}
 use Rattle.scenario_toml.proofs.Growing.{means, means_nothing}
 use Rattle.scenario_toml.proofs.document.lines_of.Goals as goal
 

@@ -1,5 +1,4 @@
-use Rattle.scenario_toml.proofs.Prelude.{◌≡◌, drop, texts_of}
-use Rattle.scenario_toml.specs.Tables.{is_among}
+use Rattle.scenario_toml.proofs.Prelude.{◌≡◌, drop, texts_of, is_among}
 use Rattle.scenario_toml.proofs.tables.is_among.Given as goal
 
 abbrev pub invariant-others : goal.invariant-others

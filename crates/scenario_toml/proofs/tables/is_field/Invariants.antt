@@ -1,5 +1,4 @@
-use Rattle.scenario_toml.proofs.Prelude.{◌≡◌, drop, map, field_of}
-use Rattle.scenario_toml.specs.Tables.{is_field}
+use Rattle.scenario_toml.proofs.Prelude.{◌≡◌, drop, map, field_of, is_field}
 use Rattle.scenario_toml.proofs.tables.is_field.Given as goal
 
 abbrev pub invariant-fields : goal.invariant-fields

@@ -1,5 +1,4 @@
-use Rattle.scenario_toml.proofs.Prelude.{◌≡◌, map, members_view, field_of, texts_of}
-use Rattle.scenario_toml.specs.Tables.{only_has}
+use Rattle.scenario_toml.proofs.Prelude.{◌≡◌, map, members_view, field_of, texts_of, only_has}
 use Rattle.scenario_toml.proofs.tables.only_has.Given as goal
 
 abbrev pub invariant-members : goal.invariant-members

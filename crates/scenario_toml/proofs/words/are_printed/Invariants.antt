@@ -1,5 +1,4 @@
-use Rattle.scenario_toml.proofs.Prelude.{◌≡◌, drop, is_printed}
-use Rattle.std.specs.List.{list_all}
+use Rattle.scenario_toml.proofs.Prelude.{◌≡◌, drop, is_printed, list_all}
 use Rattle.scenario_toml.proofs.words.are_printed.Given as goal
 
 abbrev pub invariant-octets : goal.invariant-octets

@@ -1,4 +1,4 @@
-use Rattle.std.proofs.Common.{arith}
+use Rattle.scenario_words.proofs.Prelude.{arith}
 use Rattle.scenario_words.proofs.DigitPairs.{refused}
 use Rattle.scenario_words.proofs.digits.are_pairs.Goals as goal
 

@@ -1,5 +1,4 @@
-use Rattle.std.proofs.Common.{arith}
-use Rattle.scenario_words.proofs.Prelude.{[], refl, append-nil, Place, PlaceValue, one, perhaps, rising, wishes, Spells, HasWords, words_for}
+use Rattle.scenario_words.proofs.Prelude.{[], refl, append-nil, Place, PlaceValue, one, perhaps, rising, wishes, Spells, HasWords, words_for, arith}
 use Rattle.scenario_words.proofs.Places.{EndsAt, words_fit, words_spelled}
 use Rattle.scenario_words.proofs.laws.values_have_words_where_some_words_spell_them.Goals as goal
 

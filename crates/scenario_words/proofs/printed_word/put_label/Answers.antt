@@ -1,5 +1,4 @@
-use Rattle.std.proofs.Common.{arith}
-use Rattle.scenario_words.proofs.Prelude.{decimal, codes}
+use Rattle.scenario_words.proofs.Prelude.{decimal, codes, arith}
 use Rattle.scenario_words.proofs.Putting.{prefix_of_more, on_err}
 use Rattle.scenario_words.proofs.printed_word.put_label.Goals as goal
 

@@ -1,4 +1,4 @@
-use Rattle.std.proofs.Common.{arith}
+use Rattle.scenario_words.proofs.Prelude.{arith}
 use Rattle.scenario_words.proofs.Given.{wish_passed}
 use Rattle.scenario_words.proofs.value.all_have_wish_words.Goals as goal
 

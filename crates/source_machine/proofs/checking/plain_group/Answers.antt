@@ -1,5 +1,4 @@
-use Rattle.std.proofs.Common.{arith}
-use Rattle.source_machine.proofs.Prelude.{without_cipher}
+use Rattle.source_machine.proofs.Prelude.{without_cipher, arith}
 use Rattle.source_machine.proofs.Ciphers.{is_checked, none_holds}
 use Rattle.source_machine.proofs.checking.plain_group.Goals as goal
 

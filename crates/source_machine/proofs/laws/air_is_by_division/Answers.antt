@@ -1,5 +1,4 @@
-use Rattle.std.proofs.Common.{arith}
-use Rattle.source_machine.proofs.Prelude.{Some, ap, ◌∙◌, option_and_then, group_count, pdu_at, laid_u, unframed_air, payload_number, pdu_of, framed_calls, stream_calls}
+use Rattle.source_machine.proofs.Prelude.{Some, ap, ◌∙◌, option_and_then, group_count, pdu_at, laid_u, unframed_air, payload_number, pdu_of, framed_calls, stream_calls, arith}
 use Rattle.source_machine.proofs.Framings.{air_at, airs_only, plain_air}
 use Rattle.source_machine.proofs.AirLaws.{is_checked}
 use Rattle.source_machine.proofs.Payloads.{carried_is_laid, number_counted}

@@ -1,4 +1,4 @@
-use Rattle.std.proofs.Common.{arith}
+use Rattle.source_machine.proofs.Prelude.{arith}
 use Rattle.source_machine.proofs.AirLaws.{is_checked}
 use Rattle.source_machine.proofs.Framings.{are_airs, airs_only}
 use Rattle.source_machine.proofs.laws.one_air.Goals as goal

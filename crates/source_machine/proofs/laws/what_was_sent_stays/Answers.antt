@@ -1,5 +1,4 @@
-use Rattle.std.proofs.Common.{arith}
-use Rattle.source_machine.proofs.Prelude.{pdu_of}
+use Rattle.source_machine.proofs.Prelude.{pdu_of, arith}
 use Rattle.source_machine.proofs.Framings.{airs_only}
 use Rattle.source_machine.proofs.AirLaws.{is_checked}
 use Rattle.source_machine.proofs.Payloads.{sent_stays}

@@ -1,4 +1,4 @@
-use Rattle.std.proofs.Common.{arith}
+use Rattle.source_machine.proofs.Prelude.{arith}
 use Rattle.source_machine.proofs.Lists.{stale_more}
 use Rattle.source_machine.proofs.stream.tell_stale.Goals as goal
 

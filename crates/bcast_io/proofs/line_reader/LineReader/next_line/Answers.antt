@@ -1,6 +1,4 @@
-use Rattle.std.proofs.Common.{arith}
-use Rattle.bcast_io.proofs.Prelude.{◌≡◌, false, ◌∙◌, [], ap, sym, refl, Ok, Answers, GoesOn}
-use Rattle.std.proofs.lemmas.Result.{IfOk-weaker, on_err_weaker}
+use Rattle.bcast_io.proofs.Prelude.{◌≡◌, false, ◌∙◌, [], ap, sym, refl, Ok, Answers, GoesOn, arith, IfOk-weaker, on_err_weaker}
 use Rattle.bcast_io.proofs.ReadingLaws.{Answers-then, Answers-found, BreaksOff-then, Finds-at_past, GoesOn-of, Took-of, not_ready}
 use Rattle.bcast_io.proofs.line_reader.LineReader.next_line.Goals as goal
 

@@ -1,6 +1,4 @@
-use Rattle.std.proofs.lemmas.List.{take-take, take-append-le}
-use Rattle.std.specs.List.{slice_range}
-use Rattle.bcast_io.proofs.Prelude.{ℕ, List, ◌≡◌, ◌≤◌, ◌++◌, ◌∙◌, ap, sym, drop, length, length-append, length-drop, length-take, length-take-le, subst, take, arith, Consumes}
+use Rattle.bcast_io.proofs.Prelude.{ℕ, List, ◌≡◌, ◌≤◌, ◌++◌, ◌∙◌, ap, sym, drop, length, length-append, length-drop, length-take, length-take-le, subst, take, arith, Consumes, take-take, take-append-le, slice_range}
 use Rattle.bcast_io.proofs.read_ahead.ReadAhead.fill.Goals as goal
 
 -- the first octets of a buffer that was filled anew

@@ -12,8 +12,7 @@ returns-then-is_some c =
 pub returns-in_default : goal.returns-in_default
 returns-in_default c =
     let m : Machine = machine c.args.self.now in
-    refused (Add c.args.add) m causes.NoRoom c.refused-in_default.result
-    (grind (arith, add_full)) c.refused-in_default.ensures
+    refused (Add c.args.add) m causes.NoRoom c.refused-in_default.result (grind (arith, add_full)) c.refused-in_default.ensures
 
 pub returns-then-not-fits : goal.returns-then-not-fits
 returns-then-not-fits c =

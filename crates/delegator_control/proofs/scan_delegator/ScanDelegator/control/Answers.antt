@@ -5,7 +5,6 @@ use Rattle.delegator_control.proofs.scan_delegator.ScanDelegator.control.Goals a
 
 pub returns-clause-stands : goal.returns-clause-stands
 returns-clause-stands c =
-    on_ok_weaker c.hear_control.result
-    (λ is steps stands.
+    on_ok_weaker c.hear_control.result (λ is steps stands.
     stands_done (control_heard c.args.pdu.now) steps (machine c.args.self.now) (machine c.hear_control.new.self) refl refl is stands)
     c.hear_control.ensures.step

@@ -8,10 +8,8 @@ returns-clause-step c =
     let mid : Machine = machine c.note_status.new.self in
     went_to m mid _ c.args.slot (on_group (Some c.args.slot)) c.args.encrypted c.args.taken (joined c.args.slot c.args.encrypted c.args.taken)
     (record { is_synced = true; is_encrypted = c.args.encrypted; bits = c.as_slice.result.now })
-    c.requires.within c.requires.near (near_itself c.args.slot)
-    c.in_ok-note_status.ensures.ok
-    (ap (λ (s : Snapshot). record mid { snapshot = s }) (c.join_group.ensures mid.snapshot))
-    refl
+    c.requires.within c.requires.near (near_itself c.args.slot) c.in_ok-note_status.ensures.ok
+    (ap (λ (s : Snapshot). record mid { snapshot = s }) (c.join_group.ensures mid.snapshot)) refl
     ((λ i. record { is_synced = true; is_encrypted = c.args.encrypted; bits = c.as_slice.ensures.same i }) ∙ group_status c.args.slot c.args.encrypted c.args.taken)
 
 pub invariant_of-self-clause-within : goal.invariant_of-self-clause-within

@@ -37,9 +37,7 @@ returns c =
     m.snapshot.slots c.put.new.self.slots.items m.waiting c.put.new.self.waiting.items c.in_ok-fits.fits c.if-not-fits.false c.in_ok-fits.ensures.puts in
     let mid : Machine = machine c.put.new.self in
     modify_accepted m _ c.args.modify c.args.slot c.in-Some.held c.move_wanted-moves.result c.new-filled.result c.put.new.self.slots.items c.put.new.self.waiting.items
-    c.requires.found c.requires.within there held same filled puts.0
-    (grind (arith, placed, place_by))
-    puts.1 puts.2
+    c.requires.found c.requires.within there held same filled puts.0 (grind (arith, placed, place_by)) puts.1 puts.2
 
 pub invariant_of-self-2 : goal.invariant_of-self-2
 invariant_of-self-2 c =

@@ -26,8 +26,7 @@ returns c =
     let within : c.in-Some.slot < m.setup.slots = subst (λ (o : Option ℕ). IfSome o (λ s. s < m.setup.slots)) c.in-Some.is c.find_slot-found.ensures.within in
     remove_accepted m _ c.args.source_id c.in-Some.slot held.0 c.set_slot.new.self.slots.items c.put_notice.new.waiting.items found held.1
     (sym c.is_on.ensures ∙ c.if-is_on.false) within (subst (λ n. c.in-Some.slot < n) c.args.self.now.slots.ok.0 within) c.set_slot.ensures.rest
-    c.set_slot.ensures.slots
-    (grind (arith, one, emptied, status_at))
+    c.set_slot.ensures.slots (grind (arith, one, emptied, status_at))
 
 pub returns-in_err-put_notice : goal.returns-in_err-put_notice
 returns-in_err-put_notice c =

@@ -1,5 +1,4 @@
-use Rattle.std.proofs.Common.{arith}
-use Rattle.delegator_machine.proofs.Prelude.{refl, sym, ap, subst, slot_of, train_lost, on_any_err, Machine, machine, steps_of, Halves, StandsFor}
+use Rattle.delegator_machine.proofs.Prelude.{refl, sym, ap, subst, slot_of, train_lost, on_any_err, Machine, machine, steps_of, Halves, StandsFor, arith}
 use Rattle.delegator_machine.proofs.Standing.{snapshot_is, stands_settled}
 use Rattle.delegator_machine.proofs.delegator.Delegator.lost.Goals as goal
 

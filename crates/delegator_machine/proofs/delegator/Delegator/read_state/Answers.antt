@@ -1,5 +1,4 @@
-use Rattle.std.proofs.Common.{arith}
-use Rattle.delegator_machine.proofs.Prelude.{◌∙◌, sym, ap, subst, entry_at, machine, Halves, StandsFor}
+use Rattle.delegator_machine.proofs.Prelude.{◌∙◌, sym, ap, subst, entry_at, machine, Halves, StandsFor, arith}
 use Rattle.std.proofs.lemmas.Result.{IfOk-weaker, on_err_weaker}
 use Rattle.delegator_history.specs.Values.{value_at}
 use Rattle.delegator_machine.proofs.Standing.{snapshot_is}

@@ -1,5 +1,4 @@
-use Rattle.std.proofs.Common.{arith}
-use Rattle.delegator_machine.proofs.Prelude.{refl, sym, ap, subst, op_of, written, Machine, machine, on_any_err, steps_of, Halves, StandsFor}
+use Rattle.delegator_machine.proofs.Prelude.{refl, sym, ap, subst, op_of, written, Machine, machine, on_any_err, steps_of, Halves, StandsFor, arith}
 use Rattle.delegator_machine.proofs.Standing.{snapshot_is, stands_settled}
 use Rattle.delegator_machine.proofs.delegator.Delegator.serve.Goals as goal
 

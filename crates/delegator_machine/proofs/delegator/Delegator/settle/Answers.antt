@@ -1,5 +1,4 @@
-use Rattle.delegator_machine.proofs.Prelude.{◌∙◌, sym, ap, subst, ◌&&◌, not, ◌∷◌, if◌then◌else◌, has_group, Halves}
-use Rattle.group_sink.specs.Calls.{leave}
+use Rattle.delegator_machine.proofs.Prelude.{◌∙◌, sym, ap, subst, ◌&&◌, not, ◌∷◌, if◌then◌else◌, has_group, Halves, leave}
 use Rattle.group_sink.specs.State.Sinks.{StandsFor as SinkStands}
 use Rattle.delegator_machine.proofs.delegator.Delegator.settle.Goals as goal
 

@@ -1,5 +1,4 @@
-use Rattle.std.proofs.Common.{arith}
-use Rattle.delegator_machine.proofs.Prelude.{◌∙◌, refl, sym, ap, subst, slot_of, sync_to_group, BigSync, fresh_on, on_any_err, Machine, machine, steps_of, by_numbers, group_calls, Halves, StandsFor}
+use Rattle.delegator_machine.proofs.Prelude.{◌∙◌, refl, sym, ap, subst, slot_of, sync_to_group, BigSync, fresh_on, on_any_err, Machine, machine, steps_of, by_numbers, group_calls, Halves, StandsFor, arith}
 use Rattle.delegator_machine.proofs.Standing.{snapshot_is, stands_joined}
 use Rattle.delegator_machine.proofs.delegator.Delegator.sync_to_group.Goals as goal
 

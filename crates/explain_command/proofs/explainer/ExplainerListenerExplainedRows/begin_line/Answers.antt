@@ -1,4 +1,4 @@
-use Rattle.explained_rows.proofs.Citable.{keeps_itself, prefix_none}
+use Rattle.explain_command.proofs.Prelude.{keeps_itself, prefix_none}
 use Rattle.explain_command.proofs.explainer.ExplainerListenerExplainedRows.begin_line.Goals as goal
 
 pub returns-then-is_err-clause-shown : goal.returns-then-is_err-clause-shown

@@ -33,8 +33,7 @@ loop-done-preserved g c =
 pub returns-in_err-count-clause-lines : goal.returns-in_err-count-clause-lines
 returns-in_err-count-clause-lines g c =
     let p = err_from_is_err_and c.from_residual.result c.from_residual.ensures.1 in
-    rw p.1
-    (rw (← c.self.view_is)
+    rw p.1 (rw (← c.self.view_is)
     (lines_cut c.self.inside.place c.loop-done.self-inside.place c.args.octets.now c.loop-done.done c.loop-done.invariant.place
     (g.W.ByteSink.contents c.self.inside.inner) (g.W.ByteSink.contents c.loop-done.self-inside.inner) c.loop-done.invariant.lines
     (g.W.ByteSink.contents c.write.new.self) c.in_err-count.ensures.bytes))

@@ -9,8 +9,7 @@ indices-preserved-then-not-has c =
     let here : c.in-Some.bis ≡ c.indices.index = omega (arith, c.in-Some.ensures) in
     let inside = c.big_sync.inside.which in
     let which : inside ≡ big_sync.which = ap (λ j. j.which) c.big_sync.view_is in
-    let free : is_in big_sync.which c.indices.index ≡ false =
-    ap (λ w. is_in w c.indices.index) (sym which)
+    let free : is_in big_sync.which c.indices.index ≡ false = ap (λ w. is_in w c.indices.index) (sym which)
     ∙ free_is inside c.in-Some.bis c.indices.index here (λ has. absurd (let no : false ≡ true = c.if-not-has.ensures.1 has in cc)) in
     record {
       few = omega (arith, c.indices.invariant.few);

@@ -1,6 +1,5 @@
-use Rattle.isoal_unframed.proofs.Prelude.{refl, sym, subst, All, arith, length-take-le, length-drop, length-replicate}
+use Rattle.isoal_unframed.proofs.Prelude.{refl, sym, subst, All, arith, length-take-le, length-drop, length-replicate, Within}
 use Rattle.std.proofs.lemmas.List.Elements.{All-append, All-drop, All-replicate, All-take}
-use Rattle.isoal_unframed.specs.State.Cells.{Within}
 use Rattle.isoal_unframed.proofs.Kept.{kept_cleared}
 use Rattle.isoal_unframed.proofs.Vecs.{mid_is}
 use Rattle.isoal_unframed.proofs.ring.Ring.clear.Goals as goal

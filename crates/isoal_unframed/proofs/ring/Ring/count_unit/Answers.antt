@@ -1,7 +1,4 @@
-use Rattle.isoal_unframed.proofs.Prelude.{ℕ, ◌≡◌, ◌≤◌, ◌<◌, ◌+◌, ◌*◌, length, vec_len, take, drop, get_or, cond, leb, Some, None, subst, sym, ap, ◌∙◌, arith, get_or_default, Empty, End, unit_of, kept_of}
-use Rattle.isoal_unframed.specs.State.Rings.{octets_at}
-use Rattle.isoal_unframed.specs.declared.cell.Cell.{Cell}
-use Rattle.isoal_unframed.specs.declared.ring.Ring.{Ring}
+use Rattle.isoal_unframed.proofs.Prelude.{ℕ, ◌≡◌, ◌≤◌, ◌<◌, ◌+◌, ◌*◌, length, vec_len, take, drop, get_or, cond, leb, Some, None, subst, sym, ap, ◌∙◌, arith, get_or_default, Empty, End, unit_of, kept_of, octets_at, Cell, Ring}
 use Rattle.isoal_unframed.proofs.Kept.{end_first}
 use Rattle.isoal_unframed.proofs.ring.Ring.count_unit.Goals as goal
 

@@ -32,8 +32,7 @@ slot_is c = grind (arith, many_is)
 count_is : (c : goal.After-self-2-1) → length c.gather.new.block ≡ c.args.places * c.args.self.now.max_pdu
 count_is c = grind (arith, length-drop, room_is, slot_is, length-take-le)
 
-block_is : (c : goal.After-self-2-1)
-    → (with_items c.args.self.now.block (take (c.args.first * c.from-max_pdu.result) c.deref_mut.result.now
+block_is : (c : goal.After-self-2-1) → (with_items c.args.self.now.block (take (c.args.first * c.from-max_pdu.result) c.deref_mut.result.now
     ++ (c.gather.new.block ++ drop ((c.args.first + c.args.places) * c.from-max_pdu.result - c.args.first * c.from-max_pdu.result)
     (drop (c.args.first * c.from-max_pdu.result) c.deref_mut.result.now)))).items
     ≡ take (c.args.first * c.args.self.now.max_pdu) c.args.self.now.block.items

@@ -1,5 +1,4 @@
-use Rattle.isoal_unframed.proofs.Prelude.{ℕ, zero, suc, ◌≡◌, ◌*◌, ◌≤◌, true, not, List, [], ◌∷◌, take, drop, get_or, Option, None, Some, is_some, refl, sym, ◌∙◌, subst, arith, Bounds, Content, per_unit_of, per_event_of, unit_of, kept_of}
-use Rattle.big_info.specs.declared.info.BigInfo.{BigInfo}
+use Rattle.isoal_unframed.proofs.Prelude.{ℕ, zero, suc, ◌≡◌, ◌*◌, ◌≤◌, true, not, List, [], ◌∷◌, take, drop, get_or, Option, None, Some, is_some, refl, sym, ◌∙◌, subst, arith, Bounds, Content, per_unit_of, per_event_of, unit_of, kept_of, BigInfo}
 use Rattle.isoal_unframed.proofs.ring.Ring.hand_slot.Goals as goal
 
 some_factor : (k m : ℕ) → 1 ≤ k * m → 1 ≤ m

@@ -15,8 +15,7 @@ returns-clause-kept c =
     let start : c.args.place * c.from.result ≡ c.args.place * c.args.self.now.max_pdu = ap (λ m. c.args.place * m) c.from.ensures in
     let many : c.args.place * c.from.result + length c.args.part.now - c.args.place * c.from.result ≡ length c.args.part.now = omega arith in
     let within : c.args.place * c.from.result + length c.args.part.now ≤ c.args.self.now.block.len = omega (arith, c.requires.part) in
-    ap (kept_in c.args.self.now.max_pdu (set c.args.self.now.cells.items c.args.place c.cell_of.result))
-    (grind (arith, mid_is))
+    ap (kept_in c.args.self.now.max_pdu (set c.args.self.now.cells.items c.args.place c.cell_of.result)) (grind (arith, mid_is))
     ∙ set-kept c.args.self.now.max_pdu c.args.place c.args.self.now.cells.items c.args.self.now.block.items c.args.part.now c.cell_of.result
     (Some (part_of c.args.is_end c.args.part.now)) c.args.self.now.within below octets c.requires.part
     (λ rest. c.cell_of.ensures.reads c.args.part.now rest refl)

@@ -1,5 +1,4 @@
-use Rattle.isoal_unframed.proofs.Prelude.{ℕ, ◌≡◌, ◌+◌, ◌-◌, ◌*◌, ◌<◌, arith, mul-le, per_event_of}
-use Rattle.std.proofs.Common.{◌^◌}
+use Rattle.isoal_unframed.proofs.Prelude.{ℕ, ◌≡◌, ◌+◌, ◌-◌, ◌*◌, ◌<◌, arith, mul-le, per_event_of, ◌^◌}
 use Rattle.big_info.specs.Time.{iso_us_of, sync_delay_of}
 use Rattle.isoal_unframed.specs.declared.stream.Stream.{Stream}
 use Rattle.isoal_unframed.proofs.stream.Stream.time.Goals as goal

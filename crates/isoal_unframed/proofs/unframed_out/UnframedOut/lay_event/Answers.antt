@@ -1,5 +1,4 @@
-use Rattle.isoal_unframed.proofs.Prelude.{arith, laid_in}
-use Rattle.std.proofs.lemmas.Result.{IfOk-weaker}
+use Rattle.isoal_unframed.proofs.Prelude.{arith, laid_in, IfOk-weaker}
 use Rattle.isoal_unframed.proofs.Airs.{newest_is, stands_lay}
 use Rattle.isoal_unframed.proofs.Events.{event_count}
 use Rattle.isoal_unframed.proofs.unframed_out.UnframedOut.lay_event.Goals as goal

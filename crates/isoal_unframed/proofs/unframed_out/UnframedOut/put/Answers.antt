@@ -1,5 +1,4 @@
-use Rattle.isoal_unframed.proofs.Prelude.{arith}
-use Rattle.std.proofs.lemmas.Result.{on_ok_weaker}
+use Rattle.isoal_unframed.proofs.Prelude.{arith, on_ok_weaker}
 use Rattle.isoal_unframed.proofs.Airs.{stands_accept}
 use Rattle.isoal_unframed.proofs.unframed_out.UnframedOut.put.Goals as goal
 

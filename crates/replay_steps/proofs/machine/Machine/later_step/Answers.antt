@@ -7,8 +7,7 @@ returns-in-Unit-clause-meets g c starts steps stands e boxes =
     quiet_as starts _ steps _ _ _ _ _ _
     (c.in-Unit.is ∙ ap (UnitLine c.in-Unit.bis c.in-Unit.time) (sym c.as_slice.ensures)) refl refl refl refl
     (quiet_beside (length starts) steps (UnitLine c.in-Unit.bis c.in-Unit.time c.as_slice.result.now) c.unit-given.new.self _ _
-    refl refl refl refl
-    (c.unit-given.ensures (length starts) _ steps stands e))
+    refl refl refl refl (c.unit-given.ensures (length starts) _ steps stands e))
 
 pub returns-in-Hear-clause-meets : goal.returns-in-Hear-clause-meets
 returns-in-Hear-clause-meets g c starts steps stands e boxes =

@@ -11,8 +11,7 @@ returns c source history from announced lives =
       subst (λ t. IsSink (after_train source t history) c.hear_train.new.self) train (c.in_ok-heard.ensures.lives source history from lives),
       two_put c.args.text.now c.put_train.new.text c.put_train_heard.new.text _ _
           (c.in_ok-put_train.ensures ∙ ap (λ t. c.args.text.now ++ train_line c.args.sink t) (sym announced))
-          (c.in_ok-put_train_heard.ensures
-          ∙ ap (λ heard. c.put_train.new.text ++ sink_line c.args.sink (train_words heard))
+          (c.in_ok-put_train_heard.ensures ∙ ap (λ heard. c.put_train.new.text ++ sink_line c.args.sink (train_words heard))
           (c.in_ok-heard.ensures.answer source history from lives ∙ ap (λ t. answer_of (outcome_by history.made.setup (snapshot_in history.made history.calls_made) t)) train)),
     )
 

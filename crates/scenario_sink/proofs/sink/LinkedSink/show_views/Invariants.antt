@@ -5,7 +5,6 @@ abbrev pub invariant-each : goal.invariant-each
 invariant-each l = record {
   slots : l.self.slots ≡ l.fn.self.slots;
   within : l.slot ≤ l.fn.self.slots;
-  shown : (history : SinkHistory) → IsSink history l.fn.self → is_joined l.link history.calls_made ≡ true
-      → IsSink history l.self
+  shown : (history : SinkHistory) → IsSink history l.fn.self → is_joined l.link history.calls_made ≡ true → IsSink history l.self
       × (l.text ≡ l.fn.text ++ concat (map (λ slot. value_line (codes "aview") (decimal l.sink ∷ decimal l.link ∷ []) (viewed history.made l.link history.calls_made slot)) (range_with_len 0 l.slot)));
 }

@@ -1,5 +1,4 @@
-use Rattle.std.proofs.Common.{arith}
-use Rattle.scenario_sources.proofs.Prelude.{refl, chosen_steps, group_step}
+use Rattle.scenario_sources.proofs.Prelude.{refl, chosen_steps, group_step, arith}
 use Rattle.scenario_sources.proofs.Lifting.{answers}
 use Rattle.scenario_sources.proofs.sources.Sources.describe.Goals as goal
 

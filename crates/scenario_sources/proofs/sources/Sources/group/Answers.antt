@@ -3,5 +3,4 @@ use Rattle.scenario_sources.proofs.Lifting.{chosen_read}
 use Rattle.scenario_sources.proofs.sources.Sources.group.Goals as goal
 
 pub returns : goal.returns
-returns c steps stands =
-    c.group_in.ensures (chosen_steps steps) (chosen_read refl c.index.ensures stands)
+returns c steps stands = c.group_in.ensures (chosen_steps steps) (chosen_read refl c.index.ensures stands)

@@ -1,5 +1,4 @@
-use Rattle.std.proofs.lemmas.Result.{IfErr-weaker, IfOk-weaker}
-use Rattle.scenario_sources.proofs.Prelude.{refl, chosen_steps}
+use Rattle.scenario_sources.proofs.Prelude.{refl, chosen_steps, IfErr-weaker, IfOk-weaker}
 use Rattle.scenario_sources.proofs.Lifting.{chosen_read}
 use Rattle.scenario_sources.proofs.sources.Sources.heard_at.Goals as goal
 

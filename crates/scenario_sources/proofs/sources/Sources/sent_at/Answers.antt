@@ -1,5 +1,4 @@
-use Rattle.std.proofs.lemmas.Result.{IfErr-weaker, IfOk-weaker}
-use Rattle.scenario_sources.proofs.Prelude.{refl, steps_of_source}
+use Rattle.scenario_sources.proofs.Prelude.{refl, steps_of_source, IfErr-weaker, IfOk-weaker}
 use Rattle.scenario_sources.proofs.Lifting.{phase_read}
 use Rattle.scenario_sources.proofs.sources.Sources.sent_at.Goals as goal
 

@@ -1,5 +1,4 @@
-use Rattle.std.proofs.Common.{arith}
-use Rattle.scenario_words.proofs.CitableValues.{all_have}
+use Rattle.scenario_text.proofs.Prelude.{arith, all_have}
 use Rattle.scenario_text.proofs.fitting.FittingLineTaker.take.Goals as goal
 
 pub returns : goal.returns

@@ -1,5 +1,4 @@
-use Rattle.std.proofs.Common.{arith}
-use Rattle.scenario_words.proofs.Prelude.{refl}
+use Rattle.scenario_words.proofs.Prelude.{refl, arith}
 use Rattle.scenario_words.proofs.LastWord.{last_fits, last_spells}
 use Rattle.scenario_words.proofs.OneWord.{octets_range}
 use Rattle.scenario_words.proofs.cursor.Cursor.last_octets_into.Goals as goal

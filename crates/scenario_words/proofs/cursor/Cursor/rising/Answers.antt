@@ -1,5 +1,4 @@
-use Rattle.std.proofs.Common.{arith}
-use Rattle.scenario_words.proofs.Prelude.{◌≡◌, ◌+◌, [], err_from_is_err_and, rising_of}
+use Rattle.scenario_words.proofs.Prelude.{◌≡◌, ◌+◌, [], err_from_is_err_and, rising_of, arith}
 use Rattle.scenario_words.proofs.Streams.{index_read, index_fails, all_read, no_words}
 use Rattle.scenario_words.proofs.cursor.Cursor.rising.Goals as goal
 

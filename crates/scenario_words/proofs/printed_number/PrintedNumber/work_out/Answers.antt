@@ -1,5 +1,4 @@
-use Rattle.std.proofs.Common.{rules}
-use Rattle.std.proofs.lemmas.Fmt.{length-decimal-le}
+use Rattle.scenario_words.proofs.Prelude.{rules, length-decimal-le}
 use Rattle.scenario_words.proofs.printed_number.PrintedNumber.work_out.Goals as goal
 
 pub write_digits-start-requires : goal.write_digits-start-requires

@@ -1,5 +1,4 @@
-use Rattle.source_machine.proofs.Prelude.{arith, refl, length-set, ◌∙◌, ◌/◌, ◌%◌}
-use Rattle.radio_schedule.specs.PayloadNumber.{ahead_of}
+use Rattle.source_machine.proofs.Prelude.{arith, refl, length-set, ◌∙◌, ◌/◌, ◌%◌, ahead_of}
 use Rattle.source_machine.proofs.Lent.{entry_set}
 use Rattle.source_machine.proofs.carried.Carried.new.Goals as goal
 

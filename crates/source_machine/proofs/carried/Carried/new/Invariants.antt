@@ -1,5 +1,4 @@
-use Rattle.std.proofs.Common.{ℕ, ◌≡◌, ◌<◌, ◌/◌, ◌%◌, length, get_or}
-use Rattle.radio_schedule.specs.PayloadNumber.{ahead_of}
+use Rattle.source_machine.proofs.Prelude.{ℕ, ◌≡◌, ◌<◌, ◌/◌, ◌%◌, length, get_or, ahead_of}
 use Rattle.source_machine.proofs.carried.Carried.new.Given as goal
 
 abbrev pub invariant-subevents : goal.invariant-subevents

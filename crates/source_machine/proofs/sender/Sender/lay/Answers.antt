@@ -1,4 +1,4 @@
-use Rattle.std.proofs.Common.{arith}
+use Rattle.source_machine.proofs.Prelude.{arith}
 use Rattle.source_machine.proofs.SendersLay.{plain_lays, timed_lays}
 use Rattle.source_machine.proofs.sender.Sender.lay.Goals as goal
 

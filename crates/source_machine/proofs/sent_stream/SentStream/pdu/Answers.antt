@@ -1,5 +1,4 @@
-use Rattle.std.proofs.Common.{◌≡◌, ◌+◌, [], length, ◌∙◌, ap, sym, arith}
-use Rattle.std.proofs.lemmas.Option.{slice_get-get_or}
+use Rattle.source_machine.proofs.Prelude.{◌≡◌, ◌+◌, [], length, ◌∙◌, ap, sym, arith, slice_get-get_or}
 use Rattle.source_machine.proofs.Lent.{event_laid, lent_count, lent_is, pdu_laid}
 use Rattle.source_machine.proofs.sent_stream.SentStream.pdu.Goals as goal
 

@@ -1,4 +1,4 @@
-use Rattle.std.proofs.Common.{arith}
+use Rattle.source_machine.proofs.Prelude.{arith}
 use Rattle.source_machine.proofs.LaidEvents.{accepts}
 use Rattle.source_machine.proofs.stream.Stream.give.Goals as goal
 

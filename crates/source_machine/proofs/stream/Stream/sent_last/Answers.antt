@@ -1,5 +1,4 @@
-use Rattle.source_machine.proofs.Prelude.{◌≡◌, ◌+◌, ◌-◌, length, subst, arith, horizon_of}
-use Rattle.source_machine.specs.State.Streams.{Keeps}
+use Rattle.source_machine.proofs.Prelude.{◌≡◌, ◌+◌, ◌-◌, length, subst, arith, horizon_of, Keeps}
 use Rattle.source_machine.proofs.Lent.{all_lent, lends}
 use Rattle.source_machine.proofs.stream.Stream.sent_last.Goals as goal
 

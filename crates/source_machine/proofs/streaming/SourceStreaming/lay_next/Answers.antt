@@ -19,6 +19,5 @@ returns-clause-advanced c =
     let laying = c.next_laying-laying.result in
     let told = subst (λ first. AllTell laying.anchor laying.iso_us laying.count c.self.inside.streams.items (length c.self.inside.streams.items) first c.lay_all.new.stale)
     c.new-stale.ensures c.in_ok-lay_all.ensures.told in
-    rw (← c.self.view_is)
-    (advances _ c.next_laying-laying.result c.lay_all.new.streams.items c.lay_all.new.stale c.self.invariant
+    rw (← c.self.view_is) (advances _ c.next_laying-laying.result c.lay_all.new.streams.items c.lay_all.new.stale c.self.invariant
     (group_is_checked c.self.inside.plan.group) next c.in_ok-lay_all.ensures.ok told)
