@@ -41,7 +41,7 @@ length-wishes : (groups : List Subgroup) → length (map wish_of groups) ≡ len
 length-wishes [] = refl
 length-wishes (group ∷ groups) = ap (λ n. suc n) (length-wishes groups)
 
-whole_some : {A B : Type 0} (read : Option (A × List B)) (x : A) → whole read ≡ Some x → read ≡ Some (x, [])
+pub whole_some : {A B : Type 0} (read : Option (A × List B)) (x : A) → whole read ≡ Some x → read ≡ Some (x, [])
 whole_some read x e = grind arith
 
 -- the subgroups that wishes were read of

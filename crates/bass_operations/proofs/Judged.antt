@@ -2,7 +2,7 @@
 use Rattle.bass_operations.proofs.Prelude.{◌≡◌, ℕ, suc, ◌<◌, ◌≤◌, Bool, false, cond, ltb, List, [], ◌∷◌, ◌++◌, length, Option, Some, None, Result, Ok, Err, refl, sym, ap, subst, ◌∙◌, arith, le-ltb, flat_map, laid, reserved_from, octet_in, octets_in, IsOctets, ◌>>=◌, whole, IsOctets-rest, octet_takes, octets_take, bind_some, some_is, reserved_none, none_reserved, OpFault, Opcode, Operation, ScanStopped, ScanStarted, Add, Modify, Code, Remove, fields, encoding, wishes_of, IsLaid, OpIs, FitsWidths, alone, op_of, judged, answered, fault_of, first_fault, twice_of}
 use Rattle.bass_operations.specs.Reading.{wishes_in, add_head_in, modify_head_in, add_in, modify_in, code_in, remove_in, op_in}
 use Rattle.bass_operations.proofs.Heads.{add_before, add_head_takes, add_head_again, modify_before, modify_head_takes, modify_head_again, octets_again_at}
-use Rattle.bass_operations.proofs.Encoded.{wish_fields, wishes_take, wishes_again}
+use Rattle.bass_operations.proofs.Encoded.{wish_fields, wishes_take, wishes_again, whole_some}
 use Rattle.bass_operations.proofs.Twice.{none_twice, twice_none}
 
 few : (n : ℕ) → n < 256 → n ≤ 255
@@ -33,9 +33,6 @@ modify_laid rest op h e =
     t.parts ∙ (ap (modify_before a.0.0 a.0.1) s.encoded ∙ ap (λ (n : ℕ). modify_before a.0.0 n (laid (flat_map wish_fields b.0))) (sym s.counted)) in
     let read : Operation = Modify (record a.0.0 { wishes = b.0 }) in
     subst (λ (o : Operation). IsLaid o (3 ∷ rest)) (some_is read op b.2) (grind (arith, few))
-
-whole_some : {A B : Type 0} (read : Option (A × List B)) (x : A) → whole read ≡ Some x → read ≡ Some (x, [])
-whole_some read x e = grind arith
 
 pub code_laid : (rest : List ℕ) (op : Operation) → code_in rest ≡ Some op → IsLaid op (4 ∷ rest)
 unfolding code_in

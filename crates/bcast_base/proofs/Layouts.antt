@@ -31,9 +31,9 @@ none_from start (field ∷ fields) e =
     let s = step_none field.reserved start (reserved_from (start + length field.octets) fields) e in
     (s.0, none_from (start + length field.octets) fields s.1)
 
-none_only : (start : ℕ) (fields : List Field) → NoneReserved fields → reserved_from start fields ≡ None
-none_only start [] h = refl
-none_only start (field ∷ fields) h = rw h.0 (none_only (start + length field.octets) fields h.1)
+pub none_reserved : (start : ℕ) (fields : List Field) → NoneReserved fields → reserved_from start fields ≡ None
+none_reserved start [] h = refl
+none_reserved start (field ∷ fields) h = rw h.0 (none_reserved (start + length field.octets) fields h.1)
 
 first_only : (start : ℕ) (prefix : List Field) (field : Field) (back : List Field) → NoneReserved prefix → field.reserved ≡ true
     → reserved_from start (prefix ++ field ∷ back) ≡ Some (start + length (laid prefix))
@@ -50,6 +50,3 @@ first_reserved place fields r = grind (arith, reserved_from, first_only, zero-ad
 
 pub reserved_none : (fields : List Field) → reserved_from 0 fields ≡ None → NoneReserved fields
 reserved_none fields e = none_from 0 fields e
-
-pub none_reserved : (start : ℕ) (fields : List Field) → NoneReserved fields → reserved_from start fields ≡ None
-none_reserved start fields h = none_only start fields h

@@ -1,5 +1,5 @@
 -- When two values of a slot are apart, so that a notice is put.
-use Rattle.delegator_control.proofs.Prelude.{ℕ, ◌≡◌, ◌≢◌, Bool, true, List, [], ◌∷◌, ◌++◌, ◌-◌, ◌∙◌, length, slice_get, drop, get_or, Option, Some, None, refl, sym, ap, not, append_assoc, option_map, if◌then◌else◌, append_cancel_left, encoding, Notice, change, Entry, Status, received, value, arith, append_cancel_right, length-append, bytes_eq-Decides, MatchOption}
+use Rattle.delegator_control.proofs.Prelude.{ℕ, ◌≡◌, ◌≢◌, Bool, true, List, [], ◌∷◌, ◌++◌, ◌-◌, ◌∙◌, length, slice_get, drop, get_or, Option, Some, None, refl, sym, ap, not, append_assoc, option_map, if◌then◌else◌, append_cancel_left, encoding, Notice, change, Entry, Status, received, value, arith, length-append, bytes_eq-Decides, MatchOption}
 use Rattle.std.specs.Str.{bytes_eq}
 use Rattle.std.proofs.Math.Bool.{beq}
 use Rattle.std.specs.Borrow.{Bor}
@@ -47,10 +47,3 @@ last_is : (front : List ℕ) (n : ℕ) → slice_get (front ++ n ∷ []) (length
 last_is front n =
     let many : length (front ++ n ∷ []) - 1 ≡ length front = omega (arith, length-append front (n ∷ [])) in
     ap (λ (k : ℕ). slice_get (front ++ n ∷ []) k) many ∙ at_end front n
-
-pub last_counts : (octets counted front found : List ℕ) → octets ≡ found ++ counted → octets ≡ front ++ length counted ∷ counted
-    → slice_get found (length found - 1) ≡ Some (length counted)
-last_counts octets counted front found stripped same =
-    let is : found ≡ front ++ length counted ∷ [] =
-    append_cancel_right found (front ++ length counted ∷ []) counted (sym stripped ∙ same ∙ sym (append_assoc front (length counted ∷ []) counted)) in
-    ap (λ (xs : List ℕ). slice_get xs (length xs - 1)) is ∙ last_is front (length counted)

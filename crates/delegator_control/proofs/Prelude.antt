@@ -1,11 +1,11 @@
 -- What the proofs of this crate use of `std` and of the crates below it, by one import.
-pub use Rattle.std.proofs.Common.{ℕ, ◌≡◌, ◌<◌, Bool, true, false, List, length, Option, Some, None, Result, Ok, Err, refl, ap, arith, ◌∙◌, ◌≢◌, [], ◌∷◌, drop, get_or, sym, zero, suc, ◌+◌, map, replicate, ◌++◌, subst, slice_get, append_assoc, set, ◌-◌, ◌≤◌, ◌/◌}
+pub use Rattle.std.proofs.Common.{ℕ, ◌≡◌, ◌<◌, Bool, true, false, List, length, Option, Some, None, Result, Ok, refl, ap, arith, ◌∙◌, ◌≢◌, [], ◌∷◌, drop, get_or, sym, zero, suc, ◌+◌, map, replicate, ◌++◌, subst, slice_get, append_assoc, set, ◌-◌, ◌≤◌}
 pub use Rattle.std.proofs.lemmas.Bool.{eqb-true, ne_eqb, lt-ltb, cond-true, cond-false, eq-eqb, not-false}
-pub use Rattle.std.proofs.lemmas.List.{append-nil, get_or_read_under, append_cancel_left, get_or-set_same, get_or-set_other, get_or_default, length-replicate, append_cancel_right, length-append}
+pub use Rattle.std.proofs.lemmas.List.{append-nil, get_or_read_under, append_cancel_left, get_or-set_same, get_or-set_other, get_or_default, length-replicate, length-append}
 pub use Rattle.std.proofs.lemmas.Option.{same_Some}
 pub use Rattle.std.proofs.lemmas.Result.{on_ok_weaker, on_err_weaker, err_from_is_err_and}
 pub use Rattle.std.specs.List.{range_with_len, flat_map, list_any, AllByRecursion}
-pub use Rattle.std.specs.Prelude.{◌==◌, nat_lt, is_none, if◌then◌else◌, OnErr, not, option_map, ◌&&◌, is_some, IfSome, ◌||◌, IsOk, unwrap_or, vec_len, is_ok, IfOk, IsSome}
+pub use Rattle.std.specs.Prelude.{◌==◌, nat_lt, is_none, if◌then◌else◌, OnErr, not, option_map, ◌&&◌, is_some, IfSome, ◌||◌, IsOk, unwrap_or, vec_len, is_ok, IfOk}
 pub use Rattle.base_grammar.specs.Layout.{Endpoint}
 pub use Rattle.base_grammar.specs.Reading.{base_of}
 pub use Rattle.base_grammar.specs.declared.fault.BaseFault.{BaseFault}
@@ -23,7 +23,7 @@ pub use Rattle.big_info.specs.declared.big_fault.BigFault.{BigFault}
 pub use Rattle.big_info.specs.declared.fault.GroupFault.{GroupFault}
 pub use Rattle.big_info.specs.declared.info.BigInfo.{BigInfo}
 pub use Rattle.delegator_choices.proofs.Citable.{drop_get, held_slot, found}
-pub use Rattle.delegator_control.specs.Serving.{Replies, Serves, has_value, wants_for, wants_memory}
+pub use Rattle.delegator_control.specs.Serving.{Replies, Serves, has_value, wants_memory}
 pub use Rattle.delegator_control.specs.State.Brings.{train_of}
 pub use Rattle.delegator_control.specs.State.Machines.{Machine, moved, StandsFor, machine, step_on}
 pub use Rattle.delegator_control.specs.State.Places.{place_by}

@@ -1,8 +1,8 @@
 -- What is looked back for goes on by what each step does.
-use Rattle.delegator_history.proofs.Prelude.{ℕ, ◌≡◌, ◌≢◌, ◌+◌, Bool, true, false, List, [], ◌∷◌, ◌++◌, map, Option, Some, None, refl, sym, ap, ◌∙◌, arith, ◌==◌, unwrap_or, if◌then◌else◌, option_or, range_with_len, eqb-true, eq-eqb, append-nil, Capability, last_given, Wanted, Entry, Place, Snapshot, slot_of, is_on, entry_at, Done, nothing, added, modified, removed, tuned, followed, joined, lost, left, recorded, located, opened, place_given, encryption_given, taken_given, wanting, slots_after, capability_after, placed, after, Setup, Answered, Step, done_by, snapshot_in, snapshot_of, place_in, encrypted_in, encrypted_where, taken_in, source_by, wanted_by, entry_from, unwanted, source_in, wanted_in, entry_in, records_in, capability_in}
+use Rattle.delegator_history.proofs.Prelude.{ℕ, ◌≡◌, ◌≢◌, ◌+◌, Bool, true, false, List, [], ◌∷◌, ◌++◌, map, Option, Some, None, refl, sym, ap, ◌∙◌, arith, ◌==◌, unwrap_or, option_or, range_with_len, eqb-true, eq-eqb, append-nil, Capability, last_given, Wanted, Entry, Place, Snapshot, slot_of, is_on, entry_at, Done, nothing, added, modified, removed, tuned, followed, joined, lost, left, recorded, located, opened, place_given, encryption_given, taken_given, wanting, slots_after, capability_after, placed, after, Setup, Answered, Step, done_by, snapshot_in, snapshot_of, place_in, encrypted_in, encrypted_where, taken_in, source_by, wanted_by, entry_from, unwanted, source_in, wanted_in, entry_in, records_in, capability_in}
 use Rattle.delegator_history.specs.States.{answered}
 use Rattle.delegator_history.proofs.Lists.{map_changes_first, map_at}
-use Rattle.delegator_history.proofs.Places.{place_goes_on, encryption_goes_on, taken_goes_on, not_on}
+use Rattle.delegator_history.proofs.Places.{place_goes_on, encryption_goes_on, taken_goes_on, not_on, refuse, choose}
 
 -- ---- a slot
 
@@ -18,23 +18,17 @@ same_entry : (steps : List Answered) (before : Snapshot) (done : Done) (slot : �
     → entry_in (record { before = before; done = done } ∷ steps) slot ≡ entry_in steps slot
 same_entry steps before done slot s w = grind (arith, entry_from, unwrap_or, option_or, last_given, source_by, wanted_by, unwanted)
 
-if_not : {A : Type 0} (b : Bool) (x y : A) → b ≡ false → (if b then x else y) ≡ y
-if_not b x y e = grind arith
-
-if_so : {A : Type 0} (b : Bool) (x y : A) → b ≡ true → (if b then x else y) ≡ x
-if_so b x y e = grind arith
-
 added_here : (steps : List Answered) (before : Snapshot) (slot : ℕ) (entry : Entry) → entry_in (record { before = before; done = added slot entry } ∷ steps) slot ≡ Some entry
 added_here steps before slot entry =
-    grind (arith, entry_from, unwrap_or, option_or, if_so, eq-eqb, last_given, source_by, wanted_by, unwanted)
+    grind (arith, entry_from, unwrap_or, option_or, choose, eq-eqb, last_given, source_by, wanted_by, unwanted)
 
 removed_here : (steps : List Answered) (before : Snapshot) (slot : ℕ) → entry_in (record { before = before; done = removed slot } ∷ steps) slot ≡ None
-removed_here steps before slot = grind (arith, entry_from, unwrap_or, option_or, if_so, eq-eqb, last_given, source_by, wanted_in)
+removed_here steps before slot = grind (arith, entry_from, unwrap_or, option_or, choose, eq-eqb, last_given, source_by, wanted_in)
 
 modified_here : (steps : List Answered) (before : Snapshot) (slot : ℕ) (wanted : Wanted)
     → entry_in (record { before = before; done = modified slot wanted } ∷ steps) slot ≡ wanting wanted (entry_in steps slot)
 modified_here steps before slot wanted =
-    grind (arith, entry_from, source_in, unwrap_or, option_or, if_so, eq-eqb, last_given, wanted_by, unwanted, wanted_in)
+    grind (arith, entry_from, source_in, unwrap_or, option_or, choose, eq-eqb, last_given, wanted_by, unwanted, wanted_in)
 
 zero_more : (slot : ℕ) → 0 + slot ≡ slot
 zero_more slot = omega arith
@@ -45,16 +39,16 @@ slots_go_on n steps before nothing = refl
 slots_go_on n steps before (added slot entry) =
     map_changes_first (entry_in steps) (entry_in (record { before = before; done = added slot entry } ∷ steps)) n slot (Some entry)
     (λ i other. same_entry steps before (added slot entry) i
-    (if_not (slot == i) (Some (Some entry.source)) None (not_eq slot i (λ is. other (sym is))))
-    (if_not (slot == i) (Some entry.wanted) None (not_eq slot i (λ is. other (sym is))))) (λ below. added_here steps before slot entry)
+    (refuse (slot == i) (Some (Some entry.source)) None (not_eq slot i (λ is. other (sym is))))
+    (refuse (slot == i) (Some entry.wanted) None (not_eq slot i (λ is. other (sym is))))) (λ below. added_here steps before slot entry)
 slots_go_on n steps before (modified slot wanted) =
     map_changes_first (entry_in steps) (entry_in (record { before = before; done = modified slot wanted } ∷ steps)) n slot
     (wanting wanted (entry_at (map (entry_in steps) (range_with_len 0 n)) slot))
-    (λ i other. same_entry steps before (modified slot wanted) i refl (if_not (slot == i) (Some wanted) None (not_eq slot i (λ is. other (sym is)))))
+    (λ i other. same_entry steps before (modified slot wanted) i refl (refuse (slot == i) (Some wanted) None (not_eq slot i (λ is. other (sym is)))))
     (λ below. modified_here steps before slot wanted ∙ ap (wanting wanted) (sym (map_at (entry_in steps) 0 n slot None below ∙ ap (entry_in steps) (zero_more slot))))
 slots_go_on n steps before (removed slot) =
     map_changes_first (entry_in steps) (entry_in (record { before = before; done = removed slot } ∷ steps)) n slot None
-    (λ i other. same_entry steps before (removed slot) i (if_not (slot == i) (Some None) None (not_eq slot i (λ is. other (sym is)))) refl)
+    (λ i other. same_entry steps before (removed slot) i (refuse (slot == i) (Some None) None (not_eq slot i (λ is. other (sym is)))) refl)
     (λ below. removed_here steps before slot)
 slots_go_on n steps before tuned = refl
 slots_go_on n steps before (followed slot encrypted) = refl

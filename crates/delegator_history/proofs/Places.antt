@@ -55,10 +55,10 @@ place_goes_on n steps done = grind (arith, place_given, snapshot_in, last_given,
 pub on_itself : (slot : ℕ) (place : Place) → slot_of place ≡ Some slot → is_on place slot ≡ true
 on_itself slot place is = ap (λ s. is_slot s slot) is ∙ eq-eqb slot slot refl
 
-choose : {A : Type 0} (b : Bool) (x y : A) → b ≡ true → (if b then x else y) ≡ x
+pub choose : {A : Type 0} (b : Bool) (x y : A) → b ≡ true → (if b then x else y) ≡ x
 choose b x y e = grind arith
 
-refuse : {A : Type 0} (b : Bool) (x y : A) → b ≡ false → (if b then x else y) ≡ y
+pub refuse : {A : Type 0} (b : Bool) (x y : A) → b ≡ false → (if b then x else y) ≡ y
 refuse b x y e = grind arith
 
 -- where the sink is neither on the train nor on the group of the slot none is required

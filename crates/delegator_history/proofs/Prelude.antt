@@ -1,5 +1,5 @@
 -- What the proofs of this crate use of `std` and of the crates below it, by one import.
-pub use Rattle.std.proofs.Common.{ℕ, ◌≡◌, ◌≢◌, ◌+◌, Bool, true, false, List, [], ◌∷◌, ◌++◌, map, Option, Some, None, refl, sym, ap, ◌∙◌, arith, cond, ltb, length, Result, Ok, Err, subst, ◌-◌, ◌<◌, ◌≤◌, ◌^◌, suc, zero, drop, get_or, eqb, take, ◌*◌, min, option_map, set, ◌⊎◌, inl, inr, ◌/◌}
+pub use Rattle.std.proofs.Common.{ℕ, ◌≡◌, ◌≢◌, ◌+◌, Bool, true, false, List, [], ◌∷◌, ◌++◌, map, Option, Some, None, refl, sym, ap, ◌∙◌, arith, cond, ltb, length, Result, Ok, Err, subst, ◌-◌, ◌<◌, ◌≤◌, ◌^◌, suc, zero, drop, get_or, eqb, take, ◌*◌, min, option_map, set, ◌⊎◌, ◌/◌}
 pub use Rattle.std.proofs.lemmas.Bool.{eqb-true, eq-eqb, ne_eqb, leb-true, eqb-false}
 pub use Rattle.std.proofs.lemmas.List.{append-nil, drop-append-le, drop_min, drop_at, length-append, length-take, take-append-drop}
 pub use Rattle.std.proofs.lemmas.Nat.{pow_pos, le_or_l, le_or_r, or_lt, pow_below}

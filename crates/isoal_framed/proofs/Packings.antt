@@ -1,7 +1,7 @@
 -- An event that is filled act by act.
-use Rattle.isoal_framed.proofs.Prelude.{ℕ, zero, suc, ◌≡◌, ◌+◌, ◌<◌, ◌≤◌, true, false, Bool, List, [], ◌∷◌, ◌++◌, length, drop, Option, Some, None, ◌⊎◌, refl, sym, ap, ◌∙◌, subst, arith, slice_get, false≢true, none-some, slice_get_past, same_Some, framed, room_in, pdu, cases_option, pdus_ended, Timed, Act, carries, leaves_out, ends, overhead, cases_Bool, eqb, cond-true, cond-false, Place, place_of, Comes, done, sent, room, act_for, act_of, Carried, Changes, Placed, Going, IsPartly}
+use Rattle.isoal_framed.proofs.Prelude.{ℕ, zero, suc, ◌≡◌, ◌+◌, ◌<◌, ◌≤◌, true, false, Bool, List, [], ◌∷◌, ◌++◌, length, drop, Option, Some, None, ◌⊎◌, refl, sym, ap, ◌∙◌, subst, arith, slice_get, false≢true, none-some, slice_get_past, same_Some, framed, room_in, pdu, cases_option, pdus_ended, Timed, Act, carries, leaves_out, ends, Place, place_of, Comes, done, sent, room, act_for, act_of, Carried, Changes, Placed, Going, IsPartly}
 use Rattle.isoal_framed.specs.declared.packing.Packing.{Packing}
-use Rattle.isoal_framed.proofs.Greedy.{Partly, strictly, short, comes_for, comes_none}
+use Rattle.isoal_framed.proofs.Greedy.{Partly, strictly, comes_for, comes_none}
 
 nothing_there : {A : Type 0} (i : ℕ) → slice_get {X = A} [] i ≡ None
 nothing_there i = slice_get_past [] i (omega arith)
@@ -82,20 +82,6 @@ stopped anchor None leaves_out old new changes = absurd changes
 stopped anchor (Some unit) leaves_out old new changes = absurd (false≢true changes.1)
 stopped anchor None ends old new changes = (refl, changes.0)
 stopped anchor (Some unit) ends old new changes = (refl, changes.0)
-
-two_over : (sent_now : ℕ) → 2 ≤ overhead sent_now
-two_over sent_now = grind (arith, overhead, cases_Bool (eqb sent_now 0), cond-true, cond-false)
-
-full_by : (anchor : ℕ) (due : Option Timed) (packing : Packing) → room_in packing.pdu < 2
-    → Changes anchor due (act_of anchor (room_in packing.pdu) packing.sent due) packing packing false
-full_by anchor None packing below = (refl, refl)
-full_by anchor (Some unit) packing below =
-    subst (λ act. Changes anchor (Some unit) act packing packing false)
-    (sym (short anchor (room_in packing.pdu) packing.sent unit (omega (arith, below, two_over packing.sent)))) (refl, refl)
-
--- a PDU without room for a segment ends
-pub full_ends : (anchor : ℕ) (queue : List Timed) (packing : Packing) → room_in packing.pdu < 2 → Placed anchor queue packing packing false
-full_ends anchor queue packing below = full_by anchor (slice_get queue packing.past) packing below
 
 -- the end of a PDU
 pub ended_is : (max_pdu : ℕ) (units queue : List Timed) (anchor : ℕ) (earlier acts : List Act) (pdus : List (List ℕ)) (octets : List ℕ) (old new : Packing)

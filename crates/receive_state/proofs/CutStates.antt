@@ -1,5 +1,5 @@
 -- Octets are short at a place exactly where they end within the field at it.
-use Rattle.receive_state.proofs.Prelude.{◌≡◌, ℕ, ◌+◌, ◌<◌, ◌≤◌, List, [], ◌∷◌, ◌++◌, length, Option, Some, Result, Ok, Err, refl, sym, ap, subst, ◌∙◌, inl, inr, arith, nat_lt, IfErr, flat_map, free, unless, reserved_from, place_in, IsOctets, octet, subgroup_fields, StateFault, Short, Rfu, Trailing, Memory, ReceiveState, EndsIn, IsShort, IsFault, StateFields, fields, subgroups_of, state_from, first_fault, answered, behind, judged, judged_of, state_of, Answers}
+use Rattle.receive_state.proofs.Prelude.{◌≡◌, ℕ, ◌+◌, ◌<◌, ◌≤◌, List, [], ◌∷◌, length, Option, Some, Result, Ok, Err, refl, sym, ap, subst, ◌∙◌, inl, inr, arith, nat_lt, IfErr, flat_map, free, unless, reserved_from, place_in, IsOctets, octet, subgroup_fields, StateFault, Short, Rfu, Trailing, Memory, ReceiveState, EndsIn, IsShort, IsFault, StateFields, fields, subgroups_of, state_from, first_fault, answered, behind, judged, judged_of, state_of, Answers}
 use Rattle.bcast_base.specs.Subgroups.{subgroups_in}
 use Rattle.receive_state.specs.Reading.{head_in, end_in, told}
 use Rattle.receive_state.proofs.Causes.{lifted_err, reserved_found, reserved_told, trailing_found, trailing_told}

@@ -1,5 +1,5 @@
 -- Where reading the head ends at a place, the octets end in a field of the head there.
-use Rattle.receive_state.proofs.Prelude.{◌≡◌, ℕ, ◌+◌, ◌-◌, ◌<◌, List, [], ◌∷◌, ◌++◌, length, Ok, Err, refl, sym, ap, subst, ◌∙◌, arith, zero-add, nat_lt, length-append, Field, free, unless, octet_in, octets_in, place_in, octet, EndsIn, StateFields, fields, FieldsFit, code_width, ◌>>=◌}
+use Rattle.receive_state.proofs.Prelude.{◌≡◌, ℕ, ◌+◌, ◌-◌, ◌<◌, List, [], ◌∷◌, ◌++◌, length, Err, refl, sym, ap, subst, ◌∙◌, arith, zero-add, nat_lt, length-append, Field, free, unless, octet_in, octets_in, place_in, octet, EndsIn, StateFields, fields, FieldsFit, code_width, ◌>>=◌}
 use Rattle.receive_state.specs.Reading.{head_in}
 use Rattle.receive_state.proofs.Cuts.{ends_here, ends_more, zeros, length-zeros, filled, length-filled, more-zeros}
 use Rattle.receive_state.proofs.CutSteps.{find_octet, find_octets}

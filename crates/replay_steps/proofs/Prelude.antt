@@ -1,6 +1,6 @@
 -- What the proofs of this crate use of `std` and of the crates below it, by one import.
 unfoldable pub use Rattle.scenario_history.specs.Boxes.{sink_numbers}
-pub use Rattle.std.proofs.Common.{◌≡◌, ℕ, ◌+◌, ◌*◌, ◌%◌, ◌<◌, ◌^◌, sym, ◌∙◌, ap, subst, arith, ◌==◌, List, [], ◌∷◌, true, false, if◌then◌else◌, unwrap_or, refl, Option, None, Some, Result, Ok, Err, ◌-◌, nat_lt, Bool, cond, ◌++◌, ap₂, inl, inr, append_assoc, append-nil, eq-eqb, ne_eqb, le-ltb, lt-ltb, slice_get, zero, suc, ◌≤◌, ◌&&◌, not, option_map, is_none, is_some, length, map, ◌≢◌, ◌||◌, take, ◌⊎◌, eqb-true, length-append, slice_set, IsTrue, reverse, get_or, set, replicate, get_or-set_other, get_or-set_same, length-set}
+pub use Rattle.std.proofs.Common.{◌≡◌, ℕ, ◌+◌, ◌*◌, ◌<◌, ◌^◌, sym, ◌∙◌, ap, subst, arith, ◌==◌, List, [], ◌∷◌, true, false, if◌then◌else◌, unwrap_or, refl, Option, None, Some, Result, Ok, Err, ◌-◌, nat_lt, Bool, cond, ◌++◌, ap₂, inl, inr, append_assoc, append-nil, eq-eqb, ne_eqb, le-ltb, lt-ltb, slice_get, zero, suc, ◌≤◌, ◌&&◌, not, option_map, is_none, length, map, ◌≢◌, ◌||◌, take, ◌⊎◌, eqb-true, length-append, slice_set, IsTrue, reverse, get_or}
 pub use Rattle.std.proofs.Math.Nat.{add-mul}
 pub use Rattle.std.proofs.lemmas.Bool.{cases_eq, and_parts, not-false, and_left, and_right, cases_lt}
 pub use Rattle.std.proofs.lemmas.Grind.{common_steps}
@@ -75,7 +75,6 @@ pub use Rattle.unit_outlets.specs.Handed.{Handed, valid}
 pub use Rattle.unit_outlets.specs.Took.{TookAt}
 pub use Rattle.unit_outlets.specs.declared.fault.OutletFault.TheVariants.{Failed}
 pub use Rattle.recurring_lines.specs.Operations.{operation_step}
-pub use Rattle.scenario_text.specs.Ranges.{IsInRange}
 pub use Rattle.scenario_sink.specs.SinkCalls.{call_step}
 pub use Rattle.recurring_lines.specs.Frequent.{frequent_step}
 pub use Rattle.recurring_lines.specs.SinkLines.{sink_line_step}

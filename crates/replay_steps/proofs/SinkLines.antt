@@ -1,5 +1,5 @@
 -- The lines of a sink's control and of its links.
-use Rattle.replay_steps.proofs.Prelude.{◌≡◌, ℕ, List, [], ◌∷◌, false, is_some, refl, ◌∙◌, ap, Option, None, Some, Result, Ok, length, concat, Account, airs_of, Stop, Step, Announce, End, Stage, chosen_steps, running, stage_after, stage_of, box_of, handed_by, output_of, sink_lines, phase_refusal, calls_made, source_at, the_world, made_of, named_by, refused_at, refused_where, refusal_of, IsSinkLine, AnnouncesAs, SaysNothing, Histories, with_line, Machine, Stands, histories_of, Tells, Meets, closes_first, is_relayed, arith}
+use Rattle.replay_steps.proofs.Prelude.{◌≡◌, ℕ, List, [], ◌∷◌, false, ◌∙◌, ap, Option, None, Some, Result, Ok, length, concat, Account, airs_of, Stop, Step, Announce, End, Stage, chosen_steps, running, stage_after, stage_of, handed_by, output_of, sink_lines, phase_refusal, calls_made, source_at, the_world, made_of, named_by, refused_at, refused_where, refusal_of, IsSinkLine, AnnouncesAs, SaysNothing, Histories, with_line, Machine, Stands, histories_of, Tells, Meets, closes_first, is_relayed, arith}
 use Rattle.announcement_train.specs.declared.train.Train.{Train as Announced}
 use Rattle.sink_history.specs.Output.{printed_at, printed_where}
 use Rattle.scenario_sinks.specs.SinkLines.{SinkLineMakes}
@@ -68,14 +68,6 @@ line_meets starts accounts version n steps made old new text told r stands e lin
     (line_prints starts steps made line ∙ ap (λ o. concat (printed_at the_world steps made o)) named) stage same (line_minds made line) held m)
 
 -- ---- announce
-
-made_by_box : (n : ℕ) (step : Step) (earlier : List Step) → is_some (made_of n earlier) ≡ is_some (box_of n earlier)
-    → is_some (made_of n (step ∷ earlier)) ≡ is_some (box_of n (step ∷ earlier))
-made_by_box n other earlier same = grind arith
-
-made_with_box : (n : ℕ) (steps : List Step) → is_some (made_of n steps) ≡ is_some (box_of n steps)
-made_with_box n [] = refl
-made_with_box n (step ∷ earlier) = made_by_box n step earlier (made_with_box n earlier)
 
 pub announce_meets : (starts : List Account) (version n : ℕ) (steps : List Step) (train : Announced) (old new : Machine) (text told : List ℕ) (r : Result (Unit {0}) Stop)
     → Stands steps old → stage_of steps ≡ running version → AnnouncesAs (chosen_steps steps) (Ok train) → new.stage ≡ old.stage → new.sources ≡ old.sources

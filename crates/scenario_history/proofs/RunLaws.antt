@@ -1,6 +1,6 @@
 -- A run over an accepted history and what follows it.
-use Rattle.scenario_history.proofs.Prelude.{◌≡◌, ℕ, ◌+◌, List, [], ◌∷◌, ◌++◌, length, reverse, refl, sym, ◌∙◌, ap, append_assoc, Option, None, Some, arith, append-nil, reverse-append}
-use Rattle.scenario_history.specs.Runs.{Rules, End, through, refused, number_after, out, out_unless, end_of, end_unless, brought, Accepted, accepted_of}
+use Rattle.scenario_history.proofs.Prelude.{◌≡◌, ◌+◌, List, [], ◌∷◌, ◌++◌, reverse, refl, sym, ◌∙◌, ap, append_assoc, None, reverse-append}
+use Rattle.scenario_history.specs.Runs.{Rules, out, end_of, brought, Accepted, accepted_of}
 
 pub reverse_onto : {L : Type 0} (line : L) (earlier lines : List L) → reverse (line ∷ earlier) ++ lines ≡ reverse earlier ++ line ∷ lines
 reverse_onto line earlier lines =

@@ -109,10 +109,10 @@ no_comment : (octet : ℕ) (line : List ℕ) → is_word (head_word (words_of (o
 unfolding head_word
 no_comment octet line e = not_other (nat_eq octet 35) (nat_eq octet 32) octet line refl refl e
 
-line_again : (version : ℕ) (line : List ℕ) (made : Step) → LineIs version made line → read_of version line ≡ Ok (Some made)
+pub says_so : (version : ℕ) (line : List ℕ) (made : Step) → LineIs version made line → read_of version line ≡ Ok (Some made)
 unfolding read_of step_of head_word
-line_again version [] made is = grind (arith, first_word, head_word)
-line_again version (octet ∷ line) made is =
+says_so version [] made is = grind (arith, first_word, head_word)
+says_so version (octet ∷ line) made is =
     let word = first_word version is.first is.row is.known in
     let head : is_word (head_word (words_of (octet ∷ line))) ≡ true = ap (λ (ws : List (List ℕ)). is_word (head_word ws)) is.split ∙ word in
     let other = no_comment octet line head in
@@ -125,20 +125,14 @@ step_in r made e = grind (arith, same_Some, ok_is)
 chosen_in : (b : Bool) (r : Result Step LineFault) (made : Step) → cond b (Ok None) (r >>= λ s. Ok (Some s)) ≡ Ok (Some made) → r ≡ Ok made
 chosen_in b r made e = grind (arith, step_in)
 
-line_says : (version : ℕ) (line : List ℕ) (made : Step) → read_of version line ≡ Ok (Some made) → LineIs version made line
+pub so_says : (version : ℕ) (line : List ℕ) (made : Step) → read_of version line ≡ Ok (Some made) → LineIs version made line
 unfolding read_of step_of
-line_says version [] made e = absurd cc
-line_says version (octet ∷ line) made e =
+so_says version [] made e = absurd cc
+so_says version (octet ∷ line) made e =
     let found = found_by version 0 (words_of (octet ∷ line)) made (chosen_in _ (stepped version 0 (words_of (octet ∷ line))) made e) in
     record { first = found.first; words = found.others; split = found.split; row = found.row; known = found.known; spelled = found.said }
 
 -- ---- the clauses
-
-pub says_so : (version : ℕ) (line : List ℕ) (made : Step) → LineIs version made line → read_of version line ≡ Ok (Some made)
-says_so version line made is = line_again version line made is
-
-pub so_says : (version : ℕ) (line : List ℕ) (made : Step) → read_of version line ≡ Ok (Some made) → LineIs version made line
-so_says version line made e = line_says version line made e
 
 pub one_said : (version : ℕ) (line : List ℕ) (this that : Step) → LineIs version this line → LineIs version that line → this ≡ that
 one_said version line this that is other =
@@ -153,7 +147,7 @@ pub is_in_range : (version : ℕ) (line : List ℕ) (r : Result (Option Step) Li
 is_in_range version line r given = grind (arith, said_in_range)
 
 pub is_found : (version : ℕ) (line : List ℕ) (r : Result (Option Step) LineFault) → Gives (λ read. read) r (read_of version line) → IfOk r (λ read. IfSome read (λ made. LineIs version made line))
-is_found version line r given = grind (arith, line_says)
+is_found version line r given = grind (arith, so_says)
 
 pub is_read : (version : ℕ) (line : List ℕ) (r : Result (Option Step) LineFault) → Gives (λ read. read) r (read_of version line)
     → (made : Step) → LineIs version made line → Gives (λ read. read) r (Ok (Some made))

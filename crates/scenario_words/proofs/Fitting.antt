@@ -3,7 +3,7 @@
 use Rattle.scenario_words.proofs.Prelude.{◌≡◌, ◌≤◌, ◌<◌, ℕ, zero, suc, ◌+◌, true, List, [], ◌∷◌, ◌++◌, length, take, Option, None, Some, Result, Ok, Err, refl, sym, ◌∙◌, arith, Wish, LineFault, BadLine, WordPlace, between, octets_up_to, number_in_octets, one, ◌>>=◌, bind_ok, ok_is, Left, next_of, taken, word_in, with_stream, wish_of, SpellsWord}
 use Rattle.scenario_words.specs.Reading.{decimal_in, octets_in, number_in, streams_of, wishes_of}
 use Rattle.scenario_words.specs.Fitting.{FitsWord, FitsIndices, FitsPairs}
-use Rattle.scenario_words.proofs.Spelling.{is_small, word_again, word_spelled}
+use Rattle.scenario_words.proofs.Spelling.{is_small, word_again, word_spelled, some_is}
 
 abbrev left_of : List (List ℕ) → ℕ → Left
 left_of words read = record { words = words; read = read }
@@ -13,9 +13,6 @@ pub record Stops (fits : List (List ℕ) → Type 0) (words : List (List ℕ)) (
   pub within : j ≤ length words
   pub prefix : fits (take j words)
   pub no_more : j < length words → fits (take (suc j) words) → ⊥
-
-some_is : {A : Type 0} (x y : A) → Some x ≡ Some y → x ≡ y
-some_is x y e = cc
 
 abbrev done : {A : Type 0} → A → Result A LineFault
 done x = Ok x

@@ -30,7 +30,7 @@ pub use Rattle.scenario_words.specs.Digits.{digits}
 pub use Rattle.scenario_words.specs.Joined.{joined, space, onto_first}
 pub use Rattle.scenario_words.specs.Places.{WordPlace, between, octets_up_to, number_in_octets, one, wishes_octets, framing_word, time_up_to, octets_exactly, list_up_to, Place, perhaps, rising, wishes, WordValue, PlaceValue}
 pub use Rattle.scenario_words.specs.Prefixes.{PutUpTo, APrefix}
-pub use Rattle.scenario_words.specs.Reading.{Left, next_of, taken, word_in, with_stream, wish_of, SpellsNext, SpellsSome, told, next, within, bounded, all_wishes_of, rising_of, at_place, any_word, exactly, listed, ended, timed, numbered, perhaps_of}
+pub use Rattle.scenario_words.specs.Reading.{Left, next_of, taken, word_in, with_stream, wish_of, SpellsNext, SpellsSome, told, next, within, bounded, all_wishes_of, rising_of, at_place, any_word, exactly, ended, timed, numbered, perhaps_of}
 pub use Rattle.scenario_words.specs.Rests.{words_after}
 pub use Rattle.scenario_words.specs.Spelling.{SpellsWord, SpellsOctets, Rising, with_streams, SpellsWishes, Spells}
 pub use Rattle.scenario_words.specs.ValueFitting.{HasWishWords, HasWords, LiesBetween, HasWord}

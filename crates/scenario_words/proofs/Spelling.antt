@@ -124,7 +124,7 @@ one_read f words read value left e = grind (arith, taken_is)
 split_cond : {X : Type 0} (b : Bool) (x y z : Option X) → cond b x y ≡ z → ((b ≡ true) × (x ≡ z)) ⊎ ((b ≡ false) × (y ≡ z))
 split_cond b x y z e = grind arith
 
-some_is : {A : Type 0} (x y : A) → Some x ≡ Some y → x ≡ y
+pub some_is : {A : Type 0} (x y : A) → Some x ≡ Some y → x ≡ y
 some_is x y e = cc
 
 framing_spelled : (word : List ℕ) (n : ℕ) → framing_in word ≡ Some n → SpellsWord framing_word n word

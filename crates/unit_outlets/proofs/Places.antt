@@ -3,7 +3,7 @@ use Rattle.std.proofs.Common.{◌∙◌, ap, zero, suc, [], ◌∷◌}
 use Rattle.std.proofs.lemmas.List.{map-set}
 use Rattle.std.proofs.lemmas.Option.{slice_get-map, slice_get_read}
 use Rattle.std.specs.Option.{option_map}
-use Rattle.std.specs.Prelude.{ℕ, ◌≡◌, ◌≢◌, ◌<◌, List, length, map, slice_get, slice_set, get_or, Result, refl}
+use Rattle.std.specs.Prelude.{ℕ, ◌≡◌, ◌<◌, List, length, map, slice_set, get_or, Result, refl}
 use Rattle.unit_outlets.specs.Account.{Account}
 use Rattle.unit_outlets.specs.Took.{OthersSame, Took, TookAt}
 use Rattle.unit_outlets.specs.declared.fault.OutletFault.{OutletFault}
