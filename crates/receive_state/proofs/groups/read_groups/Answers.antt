@@ -1,4 +1,6 @@
-use Rattle.receive_state.proofs.Prelude.{◌≡◌, ◌++◌, ◌∷◌, [], List, GroupState, Subgroup, state_of_group, arith, ◌+◌, ◌<◌, ◌≤◌, take, ap, ◌∙◌, Some, take_all}
+use Rattle.receive_state.proofs.Prelude.{◌≡◌, ◌++◌, ◌∷◌, [], List, GroupState, Subgroup, state_of_group, arith, ◌+◌, ◌<◌, ◌≤◌, take, ap, ◌∙◌, Some, take_all, length}
+use Rattle.receive_state.specs.Reading.{groups_of}
+use Rattle.std.proofs.lemmas.List.{length-take}
 use Rattle.receive_state.proofs.Loops.{read_next, read_never, read_end}
 use Rattle.receive_state.proofs.groups.read_groups.Goals as goal
 
@@ -26,3 +28,8 @@ returns-clause-ok c =
     let done : c.args.count ≤ c.groups.place = omega arith in
     read_end (take c.groups.place c.groups.groups) c.args.count c.groups.place c.groups.rest.now _ done c.groups.invariant.read
     ∙ ap (λ (groups : List GroupState). Some groups) (take_all c.groups.place c.groups.groups (omega arith))
+
+pub groups-init : goal.groups-init
+groups-init c =
+    let most : length c.truncate.new.self ≤ c.args.count = omega (arith, ap length c.truncate.ensures, length-take c.from-most.result c.args.groups.now) in
+    record { read = grind (arith, groups_of); some = omega arith; most = most }
