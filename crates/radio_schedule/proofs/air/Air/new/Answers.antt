@@ -1,5 +1,5 @@
-use Rattle.std.proofs.Common.{arith}
+use Rattle.std.proofs.Common.{refl, arith}
 use Rattle.radio_schedule.proofs.air.Air.new.Goals as goal
 
 pub invariant_of-result : goal.invariant_of-result
-invariant_of-result c = (cc (c.in_ok-with_capacity.ensures), λ k d b. grind (arith, c.in_ok-with_capacity.ensures))
+invariant_of-result c = (rw c.in_ok-with_capacity.ensures refl, λ k d b. grind (arith, c.in_ok-with_capacity.ensures))
