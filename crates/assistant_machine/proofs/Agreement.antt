@@ -4,6 +4,7 @@ use Rattle.std.specs.Prelude.{◌&&◌, ◌==◌, ◌-◌, not, if◌then◌else
 use Rattle.std.specs.Option.{option_or}
 use Rattle.std.specs.List.{AllByRecursion}
 use Rattle.std.proofs.lemmas.Bool.{false≢true, leb-false}
+use Rattle.assistant_machine.proofs.Standing.{drop_more}
 use Rattle.assistant_machine.specs.Cuts.{asks}
 use Rattle.receive_state.specs.Cuts.{cut}
 use Rattle.assistant_machine.specs.Links.{Act, made, notified, served, joined, forged, Language, Notice, Agrees, AreFounded, AreReadBack, IsReadBack}
@@ -49,11 +50,6 @@ delivered_within (notified ∷ earlier) founded = founded.1
 delivered_within (served slot ∷ earlier) founded = delivered_within earlier founded
 delivered_within (joined ∷ earlier) founded = omega arith
 delivered_within (forged slot octets ∷ earlier) founded = delivered_within earlier founded
-
-drop_more : {A : Type 0} (n : ℕ) (xs : List A) (x : A) → n ≤ length xs → drop n (xs ++ x ∷ []) ≡ drop n xs ++ x ∷ []
-drop_more zero xs x h = refl
-drop_more (suc n) [] x h = absurd (omega arith)
-drop_more (suc n) (y ∷ xs) x h = drop_more n xs x (omega arith)
 
 -- the first of those that wait, and the rest
 record Prefix {A : Type 0} (n : ℕ) (xs : List A) : Type 0 where

@@ -29,9 +29,6 @@ long_before into giv whole first =
     let fields : length (take 33 into) ≡ 33 = length-take-le 33 into (omega (arith, whole)) in
     omega (arith, length-append (take 33 into) (giv ++ drop 8 (drop 33 into)), length-append giv (drop 8 (drop 33 into)), fields, first)
 
-abbrev cipher_of : List ℕ → List ℕ → Option Cipher
-cipher_of giv gskd = Some (record { giv = giv; gskd = gskd })
-
 -- octets are of one cipher alone
 pub one_cipher : (one other : Option Cipher) (octets : List ℕ) → CipherIs one octets → CipherIs other octets → one ≡ other
 one_cipher None None octets h k = refl

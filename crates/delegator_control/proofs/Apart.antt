@@ -1,5 +1,5 @@
 -- When two values of a slot are apart, so that a notice is put.
-use Rattle.delegator_control.proofs.Prelude.{ℕ, ◌≡◌, ◌≢◌, Bool, true, List, [], ◌∷◌, ◌++◌, ◌-◌, ◌∙◌, length, slice_get, drop, get_or, Option, Some, None, refl, sym, ap, not, append_assoc, option_map, if◌then◌else◌, append_cancel_left, encoding, Notice, change, Entry, Status, received, value, arith, length-append, bytes_eq-Decides, MatchOption}
+use Rattle.delegator_control.proofs.Prelude.{ℕ, ◌≡◌, ◌≢◌, Bool, true, List, [], ◌∷◌, ◌++◌, ◌-◌, ◌∙◌, length, drop, get_or, Option, Some, None, refl, sym, ap, not, append_assoc, option_map, if◌then◌else◌, append_cancel_left, encoding, Notice, change, Entry, Status, received, value, arith, bytes_eq-Decides, MatchOption}
 use Rattle.std.specs.Str.{bytes_eq}
 use Rattle.std.proofs.Math.Bool.{beq}
 use Rattle.std.specs.Borrow.{Bor}
@@ -38,12 +38,3 @@ pub never_stripped : (octets counted front : List ℕ) (found : Option (Bor (Lis
     → octets ≡ front ++ length counted ∷ counted → ⊥
 never_stripped octets counted front None strips is same = strips (front ++ length counted ∷ []) (same ∙ sym (append_assoc front (length counted ∷ []) counted))
 never_stripped octets counted front (Some x) strips is same = absurd cc
-
-at_end : (front : List ℕ) (n : ℕ) → slice_get (front ++ n ∷ []) (length front) ≡ Some n
-at_end [] n = refl
-at_end (x ∷ front) n = at_end front n
-
-last_is : (front : List ℕ) (n : ℕ) → slice_get (front ++ n ∷ []) (length (front ++ n ∷ []) - 1) ≡ Some n
-last_is front n =
-    let many : length (front ++ n ∷ []) - 1 ≡ length front = omega (arith, length-append front (n ∷ [])) in
-    ap (λ (k : ℕ). slice_get (front ++ n ∷ []) k) many ∙ at_end front n

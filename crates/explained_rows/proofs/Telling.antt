@@ -251,10 +251,6 @@ pub silent : (place : Place) (kept kept' : Option (List ℕ)) (xs : List ℕ) �
 silent place kept kept' xs is a =
     keeps_nothing (told_at place kept) (told_at (place_after place xs) kept') (told place xs) is (appended takes place kept kept' xs a)
 
--- none was written
-pub unwritten : (place : Place) (kept kept' : Option (List ℕ)) → Keeps kept kept' → Keeps (told_at place kept) (told_at place kept')
-unwritten place kept kept' k = unwritten_of takes place kept kept' k
-
 pub lines_unwritten : (place : Place) (kept kept' : Option (List ℕ)) → Keeps kept kept' → Keeps (lines_at place kept) (lines_at place kept')
 lines_unwritten place kept kept' k = unwritten_of tells_line place kept kept' k
 

@@ -1,5 +1,5 @@
 -- A PDU is read as the layout says, its fault is the one at the cut, and what is written is read.
-use Rattle.iso_pdu.proofs.Prelude.{◌≡◌, ℕ, zero, suc, ◌+◌, ◌*◌, ◌%◌, ◌<◌, ◌≤◌, ◌⊎◌, Bool, cond, eqb, ltb, List, [], ◌∷◌, ◌++◌, length, take, drop, Option, Some, None, Result, Ok, Err, refl, sym, ap, ◌∙◌, subst, inl, inr, arith, append_assoc, length-append, length-take, length-drop, take-append-drop, and_parts, cases_Bool, ltb-true, ltb-false, le-ltb, lt-ltb, eqb-true, eqb-false, eq-eqb, ne_eqb, Le, PduFault, Short, LengthDiffers, TooLong, SegmentShort, SegmentNoOffset, Part, start, more, Content, end, fragment, framed, control, bit, IsSegmentHeader, SegmentIs, SegmentsAre, PayloadIs, PduIs, llid, octets_of, HasAtMost, part_at, fault_at, before, unless, parts_of, framed_of, content_at, StandsShort, StandsNoOffset, AtCut, InFramed, FaultIs, offset_octets, segment, segments, payload_of, pdu}
+use Rattle.iso_pdu.proofs.Prelude.{◌≡◌, ℕ, zero, suc, ◌+◌, ◌*◌, ◌%◌, ◌<◌, ◌≤◌, ◌⊎◌, Bool, cond, eqb, ltb, List, [], ◌∷◌, ◌++◌, length, take, drop, Option, Some, None, Result, Ok, Err, refl, sym, ap, ◌∙◌, subst, inl, inr, arith, append_assoc, length-append, length-take, length-drop, take-append-drop, and_parts, cases_Bool, ltb-true, ltb-false, le-ltb, lt-ltb, eqb-true, eqb-false, eq-eqb, ne_eqb, Le, PduFault, Short, LengthDiffers, TooLong, SegmentShort, SegmentNoOffset, Part, start, more, Content, end, fragment, framed, control, bit, IsSegmentHeader, SegmentIs, SegmentsAre, PduIs, llid, octets_of, HasAtMost, part_at, fault_at, before, unless, parts_of, framed_of, content_at, StandsShort, StandsNoOffset, AtCut, InFramed, FaultIs, offset_octets, segment, segments, payload_of, pdu}
 use Rattle.std.specs.List.{AllByRecursion}
 use Rattle.iso_pdu.specs.Reading.{parts_from, read_of}
 use Rattle.iso_pdu.proofs.PartsRead.{fault_at-none, parts_from-whole, part_at-is, parts_from-encoded, parts_from-layout, parts_from-segments, befores-err}
@@ -20,10 +20,6 @@ bad_same x y e = cc
 
 framed_of-ok : (read : Result (List Part) PduFault) (content : Content) → framed_of read ≡ Ok content → (parts : List Part) × (read ≡ Ok parts) × (framed parts ≡ content)
 framed_of-ok read content e = grind (arith, good_same, framed)
-
--- the kind of PDU that has a header's LLID, and its payload
-abbrev Holds : ℕ → List ℕ → Content → Type 0
-Holds kind payload content = (kind ≡ llid content) × PayloadIs content payload
 
 content_at-err : (kind : ℕ) (payload : List ℕ) (fault : PduFault) → content_at kind payload ≡ Err fault → (kind ≡ 2) × (parts_of payload ≡ Err fault)
 content_at-err kind payload fault e = grind (arith, bad_same, parts_of)

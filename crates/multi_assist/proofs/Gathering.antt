@@ -8,19 +8,11 @@ use Rattle.delegator_control.specs.State.Machines.{Machine}
 use Rattle.multi_assist.specs.State.Gathering.{Gathered, Gathers, StopsShort}
 use Rattle.multi_assist.specs.State.Places.{Linked, with_notice, with_notices}
 
-none_more : (link : Option Linked) → with_notices [] link ≡ link
-none_more None = refl
-none_more (Some link) = ap (λ (waiting : List Notice). Some (record link { waiting = waiting })) (append-nil link.waiting)
-
 one_more : (notices : List Notice) (notice : Notice) (link : Option Linked)
     → with_notice notice (with_notices notices link) ≡ with_notices (notices ++ notice ∷ []) link
 one_more notices notice None = refl
 one_more notices notice (Some link) =
     ap (λ (waiting : List Notice). Some (record link { waiting = waiting })) (append_assoc link.waiting notices (notice ∷ []))
-
-map_same : {A : Type 0} (f : A → A) (xs : List A) → ((x : A) → f x ≡ x) → map f xs ≡ xs
-map_same f [] same = refl
-map_same f (x ∷ xs) same = (λ i. same x i ∷ map_same f xs same i)
 
 map_twice : {A : Type 0} (f g h : A → A) (xs : List A) → ((x : A) → g (f x) ≡ h x) → map g (map f xs) ≡ map h xs
 map_twice f g h [] same = refl
@@ -29,13 +21,6 @@ map_twice f g h (x ∷ xs) same = (λ i. same x i ∷ map_twice f g h xs same i)
 map_behind : {A B : Type 0} (f : A → B) (xs : List A) (x : A) → map f (xs ++ x ∷ []) ≡ map f xs ++ f x ∷ []
 map_behind f [] x = refl
 map_behind f (y ∷ xs) x = ap (λ ys. f y ∷ ys) (map_behind f xs x)
-
-pub none_yet : (m : Machine) (links : List (Option Linked)) → Gathered m m links links
-none_yet m links = record {
-  notified = [];
-  all = refl;
-  given = record { rest = refl; links = sym (map_same (with_notices []) links none_more) };
-}
 
 first_and_rest : {A : Type 0} (xs : List A) (x : A) → slice_get xs 0 ≡ Some x → xs ≡ x ∷ drop 1 xs
 first_and_rest [] x is = absurd cc

@@ -30,10 +30,6 @@ is_word (octet ∷ word) = not (nat_eq octet 35)
 abbrev pub is_fine : Row → Bool
 is_fine row = is_word row.first && (all_small row.places && takes_all_last row.places)
 
-abbrev pub all_fine : List Row → Bool
-all_fine [] = true
-all_fine (row ∷ rows) = is_fine row && all_fine rows
-
 pub record Fine (first : List ℕ) (row : Row) : Type 0 where
   pub same : first ≡ row.first
   pub fine : is_fine row ≡ true

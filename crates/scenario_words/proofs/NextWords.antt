@@ -3,9 +3,6 @@ use Rattle.scenario_words.proofs.Prelude.{◌≡◌, ◌<◌, ◌^◌, ℕ, ◌+
 use Rattle.scenario_words.proofs.OneWord.{number_is_time}
 use Rattle.scenario_words.specs.Reading.{decimal_in, octets_in, time_in}
 
-abbrev after : List (List ℕ) → ℕ → Left
-after words read = record { words = words; read = read + 1 }
-
 pub fits : {X : Type 0} (f : List ℕ → Option X) (old new : Left) (w : List ℕ) (x : X) → next any_word old ≡ Ok (w, new) → f w ≡ Some x → next f old ≡ Ok (x, new)
 fits f old new w x e h = grind (arith, ok_is)
 

@@ -62,9 +62,6 @@ pub record GroupsSoFar (count : ℕ) (groups : List ℕ) (left first : Left) : T
   pub laid_as : groups ≡ groups_octets wishes
   pub rest : wishes_of wishes (31 - length wishes) left.read left.words ≡ wishes_of [] 31 first.read first.words
 
-pub no_group : (groups : List ℕ) (first : Left) → groups ≡ [] → GroupsSoFar 0 groups first first
-no_group groups first none = record { wishes = []; counted = refl; laid_as = none; rest = refl }
-
 few_wishes : (count : ℕ) (wishes : List Wish) → length wishes ≡ count → count < 31 → length wishes < 31
 few_wishes count wishes counted few = omega arith
 

@@ -5,17 +5,10 @@ use Rattle.scenario_words.specs.Joined.{behind}
 use Rattle.scenario_words.specs.PrintedWords.{spelled}
 use Rattle.scenario_words.specs.declared.printed_word.Word.{Word}
 
--- more stands behind a line and behind its rest
-pub with_more : (old new line rest piece left : List ℕ) → PutUpTo old new line rest → left ≡ rest ++ piece → PutUpTo old new (line ++ piece) left
-with_more old new line rest piece left so_far more = grind (arith, append_assoc)
-
 -- the next piece was put but for what waits of it
 pub put_more : (old now new line left piece waits rest : List ℕ) → PutUpTo old now line left → left ≡ piece ++ rest → PutUpTo now new piece waits
     → PutUpTo old new line (waits ++ rest)
 put_more old now new line left piece waits rest so_far split more = grind (arith, append_assoc)
-
-pub put_all : (old now new line rest : List ℕ) → PutUpTo old now line rest → new ≡ now ++ rest → new ≡ old ++ line
-put_all old now new line rest so_far more = grind (arith, append_assoc)
 
 -- what waits, with a piece of what is behind it
 pub regrouped : (waits left piece rest : List ℕ) → left ≡ piece ++ rest → waits ++ left ≡ (waits ++ piece) ++ rest
