@@ -1,0 +1,15 @@
+use Rattle.std.proofs.lemmas.Bool.{le-ltb}
+use Rattle.base_grammar.proofs.Prelude.{◌≡◌, ◌+◌, ◌≤◌, ℕ, List, [], ◌∷◌, None, false, length, flat_map, ◌==◌, arith}
+use Rattle.base_grammar.specs.Draft.{draft_fault, is_empty_last, last_of}
+use Rattle.base_grammar.specs.Layout.{subgroup}
+use Rattle.base_grammar.specs.declared.subgroup.Subgroup.{Subgroup}
+use Rattle.base_grammar.proofs.draft_steps.finish_refusal.Goals as goal
+
+finished : (subgroups : List Subgroup) (octets : ℕ) → false ≡ (length subgroups == 0) → false ≡ is_empty_last (last_of subgroups) → octets ≤ 252 → None ≡ draft_fault subgroups octets
+finished [] octets some last most = cc
+finished (s ∷ others) octets some last most = rw (← last, le-ltb 252 octets most)
+
+pub returns : goal.returns
+returns c =
+    let most : 4 + length (flat_map subgroup c.args.subgroups.now) ≤ 252 = grind arith in
+    finished c.args.subgroups.now _ c.if-is_empty.ensures c.if-is_last_empty.ensures most
