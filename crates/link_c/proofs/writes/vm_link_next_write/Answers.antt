@@ -1,4 +1,4 @@
-use Rattle.std.proofs.Common.{◌≡◌, ℕ, List, [], ◌∷◌, drop, Option, Some, None, ap, sym, subst, ◌∙◌}
+use Rattle.std.proofs.Common.{◌≡◌, ℕ, List, [], ◌∷◌, drop, Option, Some, None, ap, subst, ◌∙◌}
 use Rattle.std.specs.Prelude.{IfNone, OnSome, slice_get}
 use Rattle.link_c.specs.Links.{LinkStandsIn, writes_kept}
 use Rattle.link_c.proofs.writes.vm_link_next_write.Goals as goal
