@@ -1,6 +1,6 @@
 -- What the proofs of this crate use of `std` and of the crates below it, by one import.
 pub use Rattle.std.proofs.Common.{◌≡◌, ℕ, zero, suc, ◌<◌, ◌≤◌, List, [], ◌∷◌, ◌++◌, length, map, Option, Some, None, Result, Ok, Err, refl, sym, ap, subst, ◌∙◌, append_assoc, arith, ◌^◌, Bool, true, false, cond, ltb, ◌+◌, ◌-◌, take, drop, is_some, inl, inr, add-zero, leb, eqb, zero-add, ◌*◌}
-pub use Rattle.std.proofs.lemmas.List.{append-nil, nil_from_length, length-append, length-map, take_all}
+pub use Rattle.std.proofs.lemmas.List.{append-nil, nil_from_length, length-append, length-map, take_all, length-take}
 pub use Rattle.std.proofs.lemmas.Result.{err_from_is_err_and}
 pub use Rattle.std.specs.List.{flat_map, AllByRecursion, list_all}
 pub use Rattle.std.specs.Prelude.{◌⊎◌, nat_lt, IfOk, ◌&&◌, ◌||◌, not, IsOk, IfErr}
@@ -20,4 +20,4 @@ pub use Rattle.receive_state.specs.declared.fault.StateFault.TheVariants.{Short,
 pub use Rattle.receive_state.specs.declared.state.Encryption.{Encryption}
 pub use Rattle.receive_state.specs.declared.state.GroupState.{GroupState}
 pub use Rattle.receive_state.specs.declared.state.ReceiveState.{ReceiveState}
-pub use Rattle.std.proofs.lemmas.Bool.{ltb-false, leb-true, le-leb, lt-ltb, ltb-true, eqb-true}
+pub use Rattle.std.proofs.lemmas.Bool.{ltb-false, leb-true, le-leb, lt-ltb, ltb-true, eqb-true, le-ltb}

@@ -2,6 +2,7 @@
 use Rattle.scenario_words.proofs.Prelude.{◌≡◌, ◌<◌, ◌/◌, ◌%◌, ◌^◌, ℕ, suc, Bool, true, false, not, ◌&&◌, nat_eq, List, [], ◌∷◌, ◌++◌, length, get_or, decimal, refl, ap, arith, eqb-true, slice_index, ⊤, lower_digits, encode_lower, IsOctets, IsOctets-rest, words_of, digits_decimal, digits, joined}
 use Rattle.hex.specs.Hex.{encode_with}
 use Rattle.scenario_words.proofs.Citable.{own}
+use Rattle.scenario_words.proofs.Splitting.{refused}
 use Rattle.scenario_words.specs.Joined.{behind}
 
 -- no octet of the word is a space
@@ -23,9 +24,6 @@ both a b e = grind arith
 pub unspaced : (word : List ℕ) → is_unspaced word ≡ true → NoSpace word
 unspaced [] e = tt
 unspaced (octet ∷ word) e = let parts = both (nat_eq octet 32) (is_unspaced word) e in (parts.0, unspaced word parts.1)
-
-refused : (b : Bool) → (b ≡ true → ⊥) → b ≡ false
-refused b h = grind arith
 
 other : (octet : ℕ) → (octet ≡ 32 → ⊥) → nat_eq octet 32 ≡ false
 other octet h = refused (nat_eq octet 32) (λ same. h (eqb-true octet 32 same))

@@ -6,9 +6,7 @@ use Rattle.scenario_words.proofs.Decimals.{own}
 use Rattle.scenario_words.proofs.OneWord.{decimal_range, decimal_is, decimal_fits, within_is, array_is, exactly_is, list_is}
 use Rattle.scenario_words.proofs.OneWord.{pairs as pairs_read}
 use Rattle.scenario_words.proofs.WishWords.{wishes_fit}
-
-refused : (b : Bool) → (b ≡ true → ⊥) → b ≡ false
-refused b h = grind arith
+use Rattle.scenario_words.proofs.Splitting.{refused}
 
 -- ---- places whose greatest number fits 64 bits
 

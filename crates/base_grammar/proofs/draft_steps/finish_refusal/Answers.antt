@@ -1,8 +1,4 @@
-use Rattle.std.proofs.lemmas.Bool.{le-ltb}
-use Rattle.base_grammar.proofs.Prelude.{◌≡◌, ◌+◌, ◌≤◌, ℕ, List, [], ◌∷◌, None, false, length, flat_map, ◌==◌, arith}
-use Rattle.base_grammar.specs.Draft.{draft_fault, is_empty_last, last_of}
-use Rattle.base_grammar.specs.Layout.{subgroup}
-use Rattle.base_grammar.specs.declared.subgroup.Subgroup.{Subgroup}
+use Rattle.base_grammar.proofs.Prelude.{◌≡◌, ◌+◌, ◌≤◌, ℕ, List, [], ◌∷◌, None, false, length, flat_map, ◌==◌, arith, le-ltb, draft_fault, is_empty_last, last_of, subgroup, Subgroup}
 use Rattle.base_grammar.proofs.draft_steps.finish_refusal.Goals as goal
 
 finished : (subgroups : List Subgroup) (octets : ℕ) → false ≡ (length subgroups == 0) → false ≡ is_empty_last (last_of subgroups) → octets ≤ 252 → None ≡ draft_fault subgroups octets

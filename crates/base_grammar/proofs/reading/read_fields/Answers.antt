@@ -1,7 +1,4 @@
-use Rattle.std.proofs.lemmas.Bool.{eqb-true}
-use Rattle.base_grammar.proofs.Prelude.{◌≡◌, ℕ, List, [], ◌∷◌, Ok, length, sym, arith, number_in}
-use Rattle.base_grammar.specs.Layout.{endpoint}
-use Rattle.base_grammar.specs.declared.subgroup.Subgroup.{Subgroup}
+use Rattle.base_grammar.proofs.Prelude.{◌≡◌, ℕ, List, [], ◌∷◌, Ok, length, sym, arith, number_in, eqb-true, endpoint, Subgroup}
 use Rattle.base_grammar.specs.Reading.{fields_of, field_at, count_at, subgroups_at}
 use Rattle.base_grammar.proofs.reading.read_fields.Goals as goal
 

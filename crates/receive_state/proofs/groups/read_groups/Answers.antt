@@ -1,6 +1,4 @@
-use Rattle.receive_state.proofs.Prelude.{◌≡◌, ◌++◌, ◌∷◌, [], List, GroupState, Subgroup, state_of_group, arith, ◌+◌, ◌<◌, ◌≤◌, take, ap, ◌∙◌, Some, take_all, length}
-use Rattle.receive_state.specs.Reading.{groups_of}
-use Rattle.std.proofs.lemmas.List.{length-take}
+use Rattle.receive_state.proofs.Prelude.{◌≡◌, ◌++◌, ◌∷◌, [], List, GroupState, Subgroup, state_of_group, arith, ◌+◌, ◌<◌, ◌≤◌, take, ap, ◌∙◌, Some, take_all, length, groups_of, length-take}
 use Rattle.receive_state.proofs.Loops.{read_next, read_never, read_end}
 use Rattle.receive_state.proofs.groups.read_groups.Goals as goal
 

@@ -1,4 +1,4 @@
-use Rattle.std.proofs.lemmas.Bool.{le-ltb}
+use Rattle.receive_state.proofs.Prelude.{le-ltb}
 use Rattle.receive_state.proofs.reading.reserved_in_head.Goals as goal
 
 pub returns-else-lent-gt3 : goal.returns-else-lent-gt3

@@ -1,5 +1,4 @@
-use Rattle.receive_state.proofs.Prelude.{◌≡◌, false, ◌∙◌, sym}
-use Rattle.bcast_base.specs.Subgroups.{is_reserved}
+use Rattle.receive_state.proofs.Prelude.{◌≡◌, false, ◌∙◌, sym, is_reserved}
 use Rattle.receive_state.proofs.state.group_fits.Goals as goal
 
 pub returns-then-not-are_reserved : goal.returns-then-not-are_reserved
