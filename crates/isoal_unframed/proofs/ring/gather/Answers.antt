@@ -1,4 +1,4 @@
-use Rattle.isoal_unframed.proofs.Prelude.{◌≤◌, ◌∙◌, arith, Fragment}
+use Rattle.isoal_unframed.proofs.Prelude.{◌≤◌, ◌∙◌, sym, arith, Fragment, drop_more}
 use Rattle.isoal_unframed.proofs.Kept.{gather_more, cell_fits, place_room}
 use Rattle.isoal_unframed.proofs.ring.gather.Goals as goal
 
@@ -14,3 +14,6 @@ places-preserved c =
           c.args.cells.now c.places.block c.move_down.new.block c.places-test.true c.in-Fragment.is c.from-count.ensures
           fits_count c.places.invariant.together (grind (arith, place_room)) c.move_down.ensures.octets ∙ c.places.invariant.unit;
     }
+
+pub returns-in-Empty-clause-unit : goal.returns-in-Empty-clause-unit
+returns-in-Empty-clause-unit c = sym c.places.invariant.unit ∙ grind (arith, drop_more)
