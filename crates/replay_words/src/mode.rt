@@ -103,7 +103,7 @@ fn generating(seed: &str, events: &str) -> Mode
 }
 
 /// The number from `least` to `greatest` that a text spells, without a sign or a leading zero.
-#[tactic(auto, using(crate::proofs::Numbers::in_range))]
+#[tactic(auto, using(scenario_words::proofs::OneWord::decimal_range))]
 fn number(text: &str, least: u32, greatest: u32) -> Option<u32>
     ensures meaning { result ≡ decimal_in least greatest text.now }
     ensures range { IfSome result (λ n. (least ≤ n) × (n ≤ greatest)) }
