@@ -1,8 +1,7 @@
 -- What is told as octets are written one after the other.
-use Rattle.explained_rows.proofs.Prelude.{ℕ, suc, zero, ◌≡◌, ◌≢◌, ◌+◌, ◌<◌, ◌≤◌, ◌==◌, Bool, true, false, List, [], ◌∷◌, ◌++◌, Option, None, Some, Result, Ok, Err, MatchResult, length, get_or, take, drop, min, refl, sym, ap, subst, ◌∙◌, append-nil, arith, take-append-drop, if◌then◌else◌, eq-eqb, drop-drop, get_or-take, length-drop, length-take, take-append-le, Appends, Keeps, AppendsPrefix, AppendsShort, Start, Blank, Blanks, Mark, Within, Beside, Line, lines_at, lines_told, next, next_in_row, number_of, picked, picked_at, place_after, takes, tells_line, told, told_at}
+use Rattle.explained_rows.proofs.Prelude.{ℕ, suc, zero, ◌≡◌, ◌≢◌, ◌+◌, ◌<◌, ◌≤◌, ◌==◌, Bool, true, false, List, [], ◌∷◌, ◌++◌, Option, None, Some, Result, Ok, Err, MatchResult, length, get_or, take, drop, min, refl, sym, ap, subst, ◌∙◌, append-nil, arith, take-append-drop, if◌then◌else◌, eq-eqb, drop-drop, get_or-take, length-drop, length-take, take-append-le, Appends, Keeps, AppendsPrefix, AppendsShort, Start, Blank, Blanks, Mark, Within, Beside, Line, lines_at, lines_told, next, next_in_row, number_of, picked, picked_at, place_after, takes, tells_line, told, told_at, WriteAppends}
 use Rattle.std.proofs.lemmas.Bool.{eqb-true, ne_eqb}
 use Rattle.std.proofs.Math.Seq.{take-add}
-use Rattle.std.specs.Io.KnownBytes.{WriteAppends}
 use Rattle.bcast_io.proofs.Citable.{Appends-nothing, Appends-then}
 use Rattle.explained_rows.specs.declared.place.Place.{Place}
 

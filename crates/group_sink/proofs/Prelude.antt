@@ -4,7 +4,7 @@ pub use Rattle.std.proofs.lemmas.Bool.{cond-true, eq-eqb, eqb-true, cases_Bool, 
 pub use Rattle.std.proofs.lemmas.List.{append-nil, append_assoc, length-map, take_more, take-append-le, get_or-append_right, get_or-drop, length-append, length-take-le, map-append, set_at}
 pub use Rattle.std.proofs.lemmas.List.Elements.{filter-append}
 pub use Rattle.std.proofs.lemmas.List.FromFn.{length-range_with_len, get_or-range_with_len, get_or-map-range_with_len, length-map-range_with_len, map-range_with_len_more}
-pub use Rattle.std.proofs.lemmas.Option.{same_Some}
+pub use Rattle.std.proofs.lemmas.Option.{same_Some, get_or_from_slice_get}
 pub use Rattle.std.specs.List.{Contains, filter, flat_map, range_with_len, AllByRecursion}
 pub use Rattle.big_info.specs.Bounds.{Bounds}
 pub use Rattle.group_sink.specs.Calls.{Call, tune, hear, tick, leave, place, heard_where, heard_first, heard_calls}

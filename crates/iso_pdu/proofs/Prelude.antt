@@ -1,7 +1,7 @@
 -- What the proofs of this crate use of `std` and of the crates below it, by one import.
 pub use Rattle.std.proofs.Common.{◌≡◌, ℕ, zero, suc, ◌+◌, ◌*◌, ◌/◌, ◌%◌, List, [], ◌∷◌, ◌++◌, length, take, drop, eqb, true, refl, arith, sym, ap, subst, inl, inr, length-append, length-take, length-drop, take-append-drop, Result, Ok, Err, ◌<◌, ◌≤◌, Bool, false, Option, Some, None, ◌∙◌, append_assoc, ◌^◌, set, get_or, ◌-◌, ◌⊎◌, ◌&&◌, cond, ltb, add-zero}
 pub use Rattle.std.proofs.lemmas.Bool.{cases_Bool, eqb-true, eqb-false, eq-eqb, ne_eqb, and_parts, ltb-true, ltb-false, le-ltb, lt-ltb}
-pub use Rattle.std.proofs.lemmas.List.{append-nil, length-set, drop-take, take_more_set, take_at, drop_at, drop-set-lt}
+pub use Rattle.std.proofs.lemmas.List.{append-nil, length-set, drop-take, take_more_set, take_at, drop_at, drop-set-lt, take_all}
 pub use Rattle.std.proofs.lemmas.Slice.{take-put_mid, drop-put_mid}
 pub use Rattle.std.specs.Prelude.{IfOk, IfErr, MatchResult}
 pub use Rattle.std.specs.Result.{result_err}

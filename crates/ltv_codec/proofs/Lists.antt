@@ -1,6 +1,5 @@
 -- What is read is encoded so, what is encoded so is read, and a fault is the one at the cut.
-use Rattle.ltv_codec.proofs.Prelude.{◌≡◌, ℕ, zero, suc, ◌+◌, ◌<◌, ◌≤◌, ◌⊎◌, false, ltb, List, [], ◌∷◌, ◌++◌, length, get_or, take, drop, Some, None, Result, Ok, Err, refl, sym, ap, subst, ◌∙◌, append_assoc, arith, inl, inr, add-zero, AllByRecursion, take_at, drop_at, take-append-drop, length-append, length-take, append-nil, IsOctets, counted_in, LtvBad, ZeroLength, Short, Ltv, StandsZero, StandsShort, IsBad, Fits, structure, encoding, IsLtvList, before, ltvs_of, IsStructure, IsBadAt}
-use Rattle.std.proofs.lemmas.Bool.{cases_lt, lt-ltb, le-ltb, ltb-true}
+use Rattle.ltv_codec.proofs.Prelude.{◌≡◌, ℕ, zero, suc, ◌+◌, ◌<◌, ◌≤◌, ◌⊎◌, false, ltb, List, [], ◌∷◌, ◌++◌, length, get_or, take, drop, Some, None, Result, Ok, Err, refl, sym, ap, subst, ◌∙◌, append_assoc, arith, inl, inr, add-zero, AllByRecursion, take_at, drop_at, take-append-drop, length-append, length-take, append-nil, IsOctets, counted_in, LtvBad, ZeroLength, Short, Ltv, StandsZero, StandsShort, IsBad, Fits, structure, encoding, IsLtvList, before, ltvs_of, IsStructure, IsBadAt, cases_lt, lt-ltb, le-ltb, ltb-true}
 use Rattle.std.proofs.lemmas.List.Concat.{flat_map-cons}
 use Rattle.bcast_base.proofs.Citable.{IsOctets-drop, counted_takes}
 use Rattle.ltv_codec.specs.Reading.{ltvs_from}

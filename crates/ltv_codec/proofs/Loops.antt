@@ -1,8 +1,7 @@
 -- Reading structures one after the other, as a loop does.
-use Rattle.ltv_codec.proofs.Prelude.{◌≡◌, ℕ, zero, suc, ◌+◌, ◌-◌, ◌<◌, ◌≤◌, Bool, true, false, cond, eqb, List, [], ◌∷◌, ◌++◌, length, get_or, take, drop, Some, None, Result, Ok, Err, refl, sym, ap, ◌∙◌, arith, length-append, append-nil, take_at, IsOctets, ZeroLength, IsBad, IsFault, Fits, encoding, IsLtvList, AreLtvs, AllByRecursion, place_in, counted_in, Answers, LtvBad, Ltv, before, ltvs_of, ltvs_in, bad_of, told, IsStructure, IsBadAt}
+use Rattle.ltv_codec.proofs.Prelude.{◌≡◌, ℕ, zero, suc, ◌+◌, ◌-◌, ◌<◌, ◌≤◌, Bool, true, false, cond, eqb, List, [], ◌∷◌, ◌++◌, length, get_or, take, drop, Some, None, Result, Ok, Err, refl, sym, ap, ◌∙◌, arith, length-append, append-nil, take_at, IsOctets, ZeroLength, IsBad, IsFault, Fits, encoding, IsLtvList, AreLtvs, AllByRecursion, place_in, counted_in, Answers, LtvBad, Ltv, before, ltvs_of, ltvs_in, bad_of, told, IsStructure, IsBadAt, eqb-true}
 use Rattle.std.specs.Result.{result_err, result_unwrap_or}
 use Rattle.std.specs.Prelude.{OnOk, IfOk, IfErr, IsOk}
-use Rattle.std.proofs.lemmas.Bool.{eqb-true}
 use Rattle.std.proofs.lemmas.Option.{same_Some}
 use Rattle.ltv_codec.specs.declared.fault.LtvFault.{LtvFault}
 use Rattle.ltv_codec.specs.declared.fault.LtvFault.TheVariants as faults

@@ -11,3 +11,4 @@ pub use Rattle.ltv_codec.specs.Reading.{before, ltvs_of, told, IsStructure, IsBa
 pub use Rattle.ltv_codec.specs.declared.fault.LtvBad.{LtvBad}
 pub use Rattle.ltv_codec.specs.declared.fault.LtvBad.TheVariants.{ZeroLength, Short}
 pub use Rattle.ltv_codec.specs.declared.ltvs.Ltv.{Ltv}
+pub use Rattle.std.proofs.lemmas.Bool.{eqb-true, cases_lt, lt-ltb, le-ltb, ltb-true, eq-eqb, ne_eqb}

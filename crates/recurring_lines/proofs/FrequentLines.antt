@@ -1,8 +1,7 @@
 -- A line that comes again and again says its step in each version.
-use Rattle.recurring_lines.proofs.Prelude.{◌≡◌, ◌≢◌, ℕ, Bool, true, false, List, [], ◌∷◌, ◌++◌, ◌-◌, length, drop, None, Some, Result, Ok, Err, refl, ap, sym, ◌∙◌, codes, arith, Step, Event, unit_row, air_row, is_in_range, ◌↔◌, Option, bytes_eq, take, IfOk, IfSome, IsTrue, take-append-drop, take_rest, bytes_eq-Decides, Left, words_of, frequent_step, LineTakes, some_takes, Frequent}
+use Rattle.recurring_lines.proofs.Prelude.{◌≡◌, ◌≢◌, ℕ, Bool, true, false, List, [], ◌∷◌, ◌++◌, ◌-◌, length, drop, None, Some, Result, Ok, Err, refl, ap, sym, ◌∙◌, codes, arith, Step, Event, unit_row, air_row, is_in_range, ◌↔◌, Option, bytes_eq, take, IfOk, IfSome, IsTrue, take-append-drop, take_rest, bytes_eq-Decides, Left, words_of, frequent_step, LineTakes, some_takes, Frequent, IsInRange}
 use Rattle.bcast_base.specs.Tries.{◌>>=◌}
 use Rattle.bcast_base.specs.declared.memory.Memory.{Memory}
-use Rattle.scenario_text.specs.Ranges.{IsInRange}
 use Rattle.scenario_text.specs.Steps.{at_row, read_of, step_of, whole}
 use Rattle.scenario_text.specs.Table.{Row, row_of}
 

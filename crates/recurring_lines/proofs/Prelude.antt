@@ -12,3 +12,4 @@ pub use Rattle.scenario_words.specs.Words.{words_of}
 pub use Rattle.recurring_lines.specs.Frequent.{frequent_step}
 pub use Rattle.scenario_lines.specs.Taking.{LineTakes, some_takes}
 pub use Rattle.recurring_lines.specs.declared.frequent.Frequent.{Frequent}
+pub use Rattle.scenario_text.specs.Ranges.{IsInRange}

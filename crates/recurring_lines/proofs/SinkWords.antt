@@ -1,10 +1,9 @@
 -- A line of a first word, a space and the digit of a sink says its step in each version.
-use Rattle.recurring_lines.proofs.Prelude.{◌≡◌, ◌≤◌, ◌+◌, ◌-◌, ℕ, zero, suc, true, List, [], ◌∷◌, ◌++◌, length, get_or, drop, None, Some, Ok, refl, ap, sym, ◌∙◌, subst, codes, arith, Step, add-one, Option, bytes_eq, take, IfSome, take-append-drop, drop_all, bytes_eq-Decides, Announce, Serve, Tell, Drain, Lose, is_in_range}
+use Rattle.recurring_lines.proofs.Prelude.{◌≡◌, ◌≤◌, ◌+◌, ◌-◌, ℕ, zero, suc, true, List, [], ◌∷◌, ◌++◌, length, get_or, drop, None, Some, Ok, refl, ap, sym, ◌∙◌, subst, codes, arith, Step, add-one, Option, bytes_eq, take, IfSome, take-append-drop, drop_all, bytes_eq-Decides, Announce, Serve, Tell, Drain, Lose, is_in_range, IsInRange}
 use Rattle.std.proofs.Math.Seq.{drop-cons}
 use Rattle.std.specs.Fmt.{digits as numerals}
 use Rattle.scenario_words.specs.Joined.{space}
 use Rattle.scenario_words.specs.Reading.{decimal_in}
-use Rattle.scenario_text.specs.Ranges.{IsInRange}
 use Rattle.scenario_text.specs.Steps.{read_of, step_of}
 use Rattle.recurring_lines.specs.SinkLines.{sink_line_step}
 use Rattle.recurring_lines.specs.declared.sink_lines.SinkLine.{SinkLine}

@@ -1,4 +1,4 @@
-use Rattle.std.proofs.Common.{refl}
+use Rattle.delegator_choices.proofs.Prelude.{refl}
 use Rattle.delegator_choices.proofs.choosing.with_stream.Goals as goal
 
 pub returns-clause-room : goal.returns-clause-room

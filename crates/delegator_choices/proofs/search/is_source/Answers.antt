@@ -1,5 +1,4 @@
-use Rattle.delegator_choices.proofs.Prelude.{◌∙◌, refl, sym}
-use Rattle.std.proofs.lemmas.Bool.{eq-eqb, eqb-true}
+use Rattle.delegator_choices.proofs.Prelude.{◌∙◌, refl, sym, eq-eqb, eqb-true}
 use Rattle.delegator_choices.proofs.search.is_source.Goals.{then-source-address_type, else-source-address_type}
 use Rattle.delegator_choices.proofs.search.is_source.Goals as goal
 

@@ -1,5 +1,4 @@
-use Rattle.group_sink.proofs.Prelude.{Some, None, refl}
-use Rattle.std.proofs.lemmas.Option.{get_or_from_slice_get}
+use Rattle.group_sink.proofs.Prelude.{Some, None, refl, get_or_from_slice_get}
 use Rattle.group_sink.proofs.hearing.hear_unframed_pdu.Goals as goal
 
 pub returns-in-Some-pdu : goal.returns-in-Some-pdu

@@ -1,4 +1,4 @@
-use Rattle.std.proofs.Common.{refl}
+use Rattle.iso_pdu.proofs.Prelude.{refl}
 use Rattle.iso_pdu.proofs.framed_pdu.header_of.Goals as goal
 
 pub returns-then-complete : goal.returns-then-complete

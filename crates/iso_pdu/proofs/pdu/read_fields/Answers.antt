@@ -1,5 +1,4 @@
-use Rattle.std.proofs.lemmas.List.{take_all}
-use Rattle.iso_pdu.proofs.Prelude.{◌≡◌, ℕ, ◌%◌, ◌-◌, ◌≤◌, List, ◌∷◌, length, take, drop, get_or, Ok, control, eq-eqb, le-ltb, arith}
+use Rattle.iso_pdu.proofs.Prelude.{◌≡◌, ℕ, ◌%◌, ◌-◌, ◌≤◌, List, ◌∷◌, length, take, drop, get_or, Ok, control, eq-eqb, le-ltb, arith, take_all}
 use Rattle.iso_pdu.specs.Reading.{read_of}
 use Rattle.iso_pdu.proofs.pdu.read_fields.Goals as goal
 

@@ -1,5 +1,4 @@
-use Rattle.std.proofs.Common.{arith}
-use Rattle.iso_pdu.proofs.Prelude.{◌≡◌, ◌+◌, ◌≤◌, ℕ, List, length, Result, Ok, Err, MatchResult, IfOk, IfErr, PduFault, FaultIs, PduIs, HasAtMost}
+use Rattle.iso_pdu.proofs.Prelude.{◌≡◌, ◌+◌, ◌≤◌, ℕ, List, length, Result, Ok, Err, MatchResult, IfOk, IfErr, PduFault, FaultIs, PduIs, HasAtMost, arith}
 use Rattle.iso_pdu.specs.declared.pdu.Pdu.{Pdu}
 use Rattle.iso_pdu.specs.Reading.{read_of}
 use Rattle.iso_pdu.specs.State.Views.{content_of}

@@ -1,4 +1,4 @@
-use Rattle.std.proofs.lemmas.Bool.{eq-eqb, ne_eqb}
+use Rattle.ltv_codec.proofs.Prelude.{eq-eqb, ne_eqb}
 use Rattle.ltv_codec.proofs.Loops.{ended, reads, unfound_found, unfound_next, unfound_none}
 use Rattle.ltv_codec.proofs.reading.first_value.Goals as goal
 

@@ -1,4 +1,4 @@
-use Rattle.std.proofs.Common.{arith}
+use Rattle.group_sink.proofs.Prelude.{arith}
 use Rattle.group_sink.proofs.group_receivers.GroupReceivers.place.Goals as goal
 
 pub returns : goal.returns

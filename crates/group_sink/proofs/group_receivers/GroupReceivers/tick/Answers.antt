@@ -1,4 +1,4 @@
-use Rattle.std.proofs.Common.{refl, sym}
+use Rattle.group_sink.proofs.Prelude.{refl, sym}
 use Rattle.group_sink.proofs.group_receivers.GroupReceivers.tick.Goals as goal
 
 pub returns-clause-step : goal.returns-clause-step
