@@ -1,5 +1,6 @@
 use Rattle.isoal_unframed.proofs.Prelude.{◌≤◌, ◌∙◌, sym, arith, Fragment, drop_more}
-use Rattle.isoal_unframed.proofs.Kept.{gather_more, cell_fits, place_room}
+use Rattle.std.proofs.lemmas.List.{length-append, length-take, length-drop}
+use Rattle.isoal_unframed.proofs.Kept.{gather_more, cell_fits, place_room, end_room}
 use Rattle.isoal_unframed.proofs.ring.gather.Goals as goal
 
 pub places-preserved : goal.places-preserved
@@ -17,3 +18,8 @@ places-preserved c =
 
 pub returns-in-Empty-clause-unit : goal.returns-in-Empty-clause-unit
 returns-in-Empty-clause-unit c = sym c.places.invariant.unit ∙ grind (arith, drop_more)
+
+pub returns-else-len-max_sdu-clause-unit : goal.returns-else-len-max_sdu-clause-unit
+returns-else-len-max_sdu-clause-unit c =
+    let room = end_room c.args.max_pdu c.places.cell-index c.in-End.part c.args.cells.now c.places.block c.requires.within c.places-test.true c.in-End.is (omega (arith, c.requires.room)) in
+    sym c.places.invariant.unit ∙ grind (arith, drop_more, length-append, length-take, length-drop)
