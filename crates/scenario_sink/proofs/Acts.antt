@@ -1,7 +1,6 @@
 -- What a call adds to what happens on a link.
-use Rattle.scenario_sink.proofs.Prelude.{ℕ, zero, suc, ◌≡◌, ◌≢◌, ◌+◌, ◌<◌, ◌≤◌, min, Bool, true, false, List, [], ◌∷◌, ◌++◌, length, drop, slice_get, Option, Some, None, refl, sym, ap, ◌∙◌, length-append, arith, inl, inr, ◌==◌, if◌then◌else◌, unwrap_or, filter, range_with_len, option_or, cases_eq, eq-eqb, ne_eqb, reads_of, waiting_of, IsLowest, NoneWaits, Setup, Call, joined, parted, asked, served, notified, read, is_joined, joining_by, served_of, writes, writes_waiting, IsApart, Told, acts_of, language, notices_waiting, read_first, reads_waiting, notified_first, IsStep}
+use Rattle.scenario_sink.proofs.Prelude.{drop_more, ℕ, zero, suc, ◌≡◌, ◌≢◌, ◌+◌, ◌<◌, ◌≤◌, min, Bool, true, false, List, [], ◌∷◌, ◌++◌, length, drop, slice_get, Option, Some, None, refl, sym, ap, ◌∙◌, length-append, arith, inl, inr, ◌==◌, if◌then◌else◌, unwrap_or, filter, range_with_len, option_or, cases_eq, eq-eqb, ne_eqb, reads_of, waiting_of, IsLowest, NoneWaits, Setup, Call, joined, parted, asked, served, notified, read, is_joined, joining_by, served_of, writes, writes_waiting, IsApart, Told, acts_of, language, notices_waiting, read_first, reads_waiting, notified_first, IsStep}
 use Rattle.assistant_machine.specs.Links as links
-use Rattle.assistant_machine.proofs.Citable.{drop_more}
 use Rattle.delegator_history.specs.LastGiven.{last_given}
 
 pub first_and_rest : {A : Type 0} (xs : List A) (x : A) → slice_get xs 0 ≡ Some x → xs ≡ x ∷ drop 1 xs

@@ -1,5 +1,5 @@
 -- A link on which one thing more happens.
-use Rattle.scenario_sink.proofs.Prelude.{ℕ, zero, suc, ◌≡◌, ◌≤◌, Bool, true, false, List, [], ◌∷◌, ◌++◌, length, map, drop, slice_get, Option, Some, refl, sym, ap, ◌∙◌, arith, inl, inr, ◌==◌, ◌&&◌, not, unwrap_or, cases_eq, eq-eqb, ne_eqb, IsOctets, ReceiveState, Assistant, if_slot, reading_of, Notice, delivered_of, if_its, notices_of, told_by, value_of, waiting_of, waits_of, Acts, Told, delivered, language, Linked, LinkHolds}
+use Rattle.scenario_sink.proofs.Prelude.{drop_more, drop_one, ℕ, ◌≡◌, Bool, true, false, List, [], ◌∷◌, ◌++◌, map, drop, slice_get, Option, Some, sym, ap, ◌∙◌, arith, inl, inr, ◌==◌, ◌&&◌, not, unwrap_or, cases_eq, eq-eqb, ne_eqb, IsOctets, ReceiveState, Assistant, if_slot, reading_of, Notice, delivered_of, if_its, notices_of, told_by, value_of, waiting_of, waits_of, Acts, Told, delivered, language, Linked, LinkHolds}
 use Rattle.assistant_machine.specs.Calls as assistants
 use Rattle.assistant_machine.specs.State.Assistants.{StandsFor}
 use Rattle.assistant_machine.specs.Views as known
@@ -14,15 +14,6 @@ pub holds_as : (slots : ℕ) (mtu : Option ℕ) (acts others : Acts) (writes mor
 holds_as slots mtu acts others writes more on same are holds = grind arith
 
 -- ---- writes
-
-drop_one : {A : Type 0} (n : ℕ) (xs : List A) → drop (suc n) xs ≡ drop 1 (drop n xs)
-drop_one (suc n) (x ∷ xs) = drop_one n xs
-drop_one n xs = search
-
-drop_more : {A : Type 0} (n : ℕ) (xs : List A) (x : A) → n ≤ length xs → drop n (xs ++ x ∷ []) ≡ drop n xs ++ x ∷ []
-drop_more zero xs x h = refl
-drop_more (suc n) [] x h = absurd (omega arith)
-drop_more (suc n) (y ∷ xs) x h = drop_more n xs x (omega arith)
 
 pub put_holds : (slots : ℕ) (mtu : Option ℕ) (acts : Acts) (writes : List (List ℕ)) (on : Linked) (octets : List ℕ) (after : Assistant)
     → ((slots : ℕ) (taken : List assistants.Call) → StandsFor slots taken on.assistant → StandsFor slots (assistants.put octets ∷ taken) after)

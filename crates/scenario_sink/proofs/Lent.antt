@@ -1,6 +1,5 @@
 -- The assistant that is lent is the one on the link.
-use Rattle.scenario_sink.proofs.Prelude.{ℕ, ◌≡◌, List, [], ◌∷◌, ◌++◌, drop, Option, Some, None, refl, sym, ap, ◌∙◌, subst, IfSome, OnSome, option_map, option_to_list, Assistant, IsLowest, link_at, mtu_of, slots_of, with_assistant_on, Linked, assistant_in, Links, Takes}
-use denote.Ref.{MutBor}
+use Rattle.scenario_sink.proofs.Prelude.{ℕ, ◌≡◌, List, [], ◌∷◌, ◌++◌, drop, Option, Some, None, refl, sym, ap, ◌∙◌, subst, IfSome, OnSome, option_map, option_to_list, Assistant, IsLowest, link_at, mtu_of, slots_of, with_assistant_on, Linked, assistant_in, Links, Takes, MutBor}
 use Rattle.assistant_machine.specs.Calls.{Call, asked, sent}
 use Rattle.assistant_machine.specs.State.Assistants.{StandsFor}
 use Rattle.scenario_sink.proofs.Places.{lent_same, lent_terms}

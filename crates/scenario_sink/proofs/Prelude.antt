@@ -39,7 +39,7 @@ pub use Rattle.scenario_sink.specs.State.Stands.{HasStepped, Stands, after_call,
 pub use Rattle.scenario_sink.specs.State.Taking.{Takes}
 pub use Rattle.scenario_sink.specs.State.Untold.{its_mtu, untold, unless_told}
 pub use Rattle.scenario_sink.specs.declared.sink.LinkedSink.{LinkedSink}
-pub use Rattle.sink_history.proofs.Citable.{writes_one, notices_one, drop_nil, taken_one_by_one}
+pub use Rattle.sink_history.proofs.Citable.{writes_one, notices_one, drop_nil, drop_one, taken_one_by_one}
 pub use Rattle.sink_history.specs.Calls.{Call, joined, is_joined, stepped, asked, parted, read, served, notified, step_by, writes_waiting, steps_of, forged, joining_by, served_of, writes}
 pub use Rattle.sink_history.specs.Drains.{IsApart, drained, repeated, served_out, notified_out, LeavesLink}
 pub use Rattle.sink_history.specs.History.{Source, given_train, own_train, record_of}
@@ -54,7 +54,10 @@ pub use Rattle.transcript_text.specs.SinkLines.{reply_line, value_line, sink_lin
 pub use Rattle.transcript_text.specs.declared.refusal.Refusal.{Refusal}
 pub use Rattle.transcript_text.specs.declared.stop.Stop.{Stop}
 pub use Rattle.transcript_text.specs.declared.refusal.Refusal.TheVariants.{RecordsTooLong, NoSuchLink, NothingWaiting, LinkTwice}
+pub use Rattle.assistant_machine.proofs.Citable.{drop_more}
 pub use Rattle.assistant_machine.specs.Answers.{IsCause}
 pub use Rattle.delegator_machine.proofs.Citable.{groups_heard, steps_heard, stays_off}
 pub use Rattle.multi_assist.specs.State.Gathering.{Gathers, StandsOn}
 pub use Rattle.scenario_text.specs.declared.step.Step.TheVariants.{Add, Modify, Remove, Code, Assist, Apart, AWrite, AServe, ATell, ARead, ADrain, AShow}
+pub use denote.Ref.{MutBor}
+pub use Rattle.scenario_text.specs.Ranges.{IsInRange}

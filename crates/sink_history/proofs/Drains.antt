@@ -6,7 +6,7 @@ use Rattle.sink_history.proofs.Prelude.{ℕ, zero, suc, ◌≡◌, ◌≢◌, �
 pub drop_nil : {A : Type 0} (n : ℕ) → drop {A = A} n [] ≡ []
 drop_nil n = grind arith
 
-drop_one : {A : Type 0} (n : ℕ) (xs : List A) → drop (suc n) xs ≡ drop 1 (drop n xs)
+pub drop_one : {A : Type 0} (n : ℕ) (xs : List A) → drop (suc n) xs ≡ drop 1 (drop n xs)
 drop_one (suc n) (x ∷ xs) = drop_one n xs
 drop_one n xs = search
 

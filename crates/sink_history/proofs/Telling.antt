@@ -1,6 +1,7 @@
 -- A step of the delegator puts its notices behind those that wait on a link, and changes nothing that its assistant knows.
-use Rattle.sink_history.proofs.Prelude.{ℕ, zero, suc, ◌≡◌, ◌+◌, ◌≤◌, Bool, List, [], ◌∷◌, ◌++◌, length, length-append, map, drop, Option, refl, sym, ap, ◌∙◌, subst, append_assoc, arith, bytes_eq, if◌then◌else◌, flat_map, range_with_len, AreFounded, delivered_of, made, notices_of, view_of, waiting_of, waits_of, Notice, change, changes, handed_out, Snapshot, snapshot_of, Setup, state_at, value_at, Call, stepped, served, steps_of, Acts, Told, acts_of, delivered, language, made_all}
+use Rattle.sink_history.proofs.Prelude.{ℕ, zero, suc, ◌≡◌, ◌+◌, ◌≤◌, Bool, List, [], ◌∷◌, ◌++◌, length, length-append, map, Option, refl, sym, ap, ◌∙◌, subst, append_assoc, arith, bytes_eq, if◌then◌else◌, flat_map, range_with_len, AreFounded, delivered_of, made, notices_of, view_of, waiting_of, waits_of, Notice, change, changes, handed_out, Snapshot, snapshot_of, Setup, state_at, value_at, Call, stepped, served, steps_of, Acts, Told, acts_of, delivered, language, made_all}
 use Rattle.std.proofs.lemmas.List.{append-nil}
+use Rattle.assistant_machine.proofs.Citable.{drop_more}
 use Rattle.assistant_machine.specs.Links as links
 use Rattle.sink_history.specs.Steps.{IsStep, NotifiesLink}
 use Rattle.sink_history.proofs.Acts.{founded}
@@ -14,11 +15,6 @@ delivered_within (links.notified ∷ earlier) is = is.1
 delivered_within (links.served slot ∷ earlier) is = delivered_within earlier is
 delivered_within (links.joined ∷ earlier) is = omega arith
 delivered_within (links.forged slot octets ∷ earlier) is = delivered_within earlier is
-
-drop_more : {A : Type 0} (n : ℕ) (xs : List A) (x : A) → n ≤ length xs → drop n (xs ++ x ∷ []) ≡ drop n xs ++ x ∷ []
-drop_more zero xs x h = refl
-drop_more (suc n) [] x h = absurd (omega arith)
-drop_more (suc n) (y ∷ xs) x h = drop_more n xs x (omega arith)
 
 map_both : {A B : Type 0} (f : A → B) (xs ys : List A) → map f (xs ++ ys) ≡ map f xs ++ map f ys
 map_both f [] ys = refl

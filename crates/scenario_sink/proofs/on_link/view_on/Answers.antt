@@ -1,5 +1,4 @@
-use Rattle.scenario_sink.proofs.Prelude.{◌≡◌, sym, ap, subst, ◌∙◌, Option, None, IfOk, option_map, slice_index_or, value, Assistant, ReceiveState}
-use denote.Ref.{MutBor}
+use Rattle.scenario_sink.proofs.Prelude.{◌≡◌, sym, ap, subst, ◌∙◌, Option, None, IfOk, option_map, slice_index_or, value, Assistant, ReceiveState, MutBor}
 use Rattle.scenario_sink.proofs.Lent.{given_back, its_own}
 use Rattle.scenario_sink.proofs.on_link.view_on.Goals as goal
 

@@ -1,5 +1,4 @@
-use Rattle.scenario_sink.proofs.Prelude.{refl, sym, ap, subst, ◌∙◌, arith}
-use Rattle.scenario_text.specs.Ranges.{IsInRange}
+use Rattle.scenario_sink.proofs.Prelude.{refl, sym, ap, subst, ◌∙◌, arith, IsInRange}
 use Rattle.scenario_text.specs.declared.step.Step.TheVariants as steps
 use Rattle.scenario_sink.proofs.Arms.{does_so, makes_so}
 use Rattle.scenario_sink.proofs.Others.{of_link}

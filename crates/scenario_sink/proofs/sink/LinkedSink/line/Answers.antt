@@ -1,5 +1,4 @@
-use Rattle.scenario_sink.proofs.Prelude.{None, refl, subst, arith, is_joined}
-use Rattle.scenario_text.specs.Ranges.{IsInRange}
+use Rattle.scenario_sink.proofs.Prelude.{None, refl, subst, arith, is_joined, IsInRange}
 use Rattle.scenario_sink.proofs.Arms.{does_so}
 use Rattle.scenario_sink.proofs.Histories.{first_joined}
 use Rattle.scenario_sink.proofs.Others.{of_lent}
