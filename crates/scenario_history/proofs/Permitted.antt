@@ -1,10 +1,8 @@
 -- What holds of a step that is refused by no reason.
-use Rattle.scenario_history.proofs.Prelude.{ℕ, ◌≡◌, Bool, true, false, List, Option, None, Some, refl, sym, or_parts, none-some, Step, chosen_steps, is_over, stage_of, version_of}
+use Rattle.scenario_history.proofs.Prelude.{ℕ, ◌≡◌, Bool, true, false, List, Option, None, Some, refl, sym, or_parts, none-some, Step, chosen_steps, is_over, stage_of, version_of, is_misplaced, is_out_of_order, is_out_of_phase, own_refusal, phase_refusal, refusal_of, sink_refusal, source_refusal, twin_refusal}
 use Rattle.std.specs.Option.{option_map, option_or}
 use Rattle.transcript_text.specs.declared.refusal.Refusal.{Refusal}
 use Rattle.source_machine.specs.Airs.{Airs}
-use Rattle.scenario_history.specs.Refusals.{is_misplaced, is_out_of_order, is_out_of_phase, own_refusal, phase_refusal}
-use Rattle.scenario_history.specs.Refusals.{refusal_of, sink_refusal, source_refusal, twin_refusal}
 use Rattle.sink_history.specs.Refusals.{refuse_if}
 
 pub neither : {A : Type 0} (a b : Option A) → option_or a b ≡ None → (a ≡ None) × (b ≡ None)

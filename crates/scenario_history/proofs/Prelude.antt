@@ -9,3 +9,4 @@ pub use Rattle.scenario_history.specs.Steps.{chosen_steps, is_over, stage_of, ve
 pub use Rattle.scenario_text.specs.declared.step.Step.{Step}
 pub use Rattle.unit_outlets.specs.Account.{Account, with_unit, kept_after}
 pub use Rattle.unit_outlets.specs.Handed.{Handed, valid, lost}
+pub use Rattle.scenario_history.specs.Refusals.{is_misplaced, is_out_of_order, is_out_of_phase, own_refusal, phase_refusal, refusal_of, sink_refusal, source_refusal, twin_refusal}

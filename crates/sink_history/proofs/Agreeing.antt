@@ -1,6 +1,5 @@
 -- Each link agrees with the sink, by the law of what happens on it.
-use Rattle.std.proofs.Common.{arith}
-use Rattle.sink_history.proofs.Prelude.{ℕ, ◌≡◌, ◌<◌, false, List, Option, ◌∙◌, ReceiveState, Act, AreFounded, AreReadBack, Agrees, Language, Setup, Call, NoneNotifies, notified_and_read, acts_of, is_forged, language, read_waits, state, view, AreOctets}
+use Rattle.sink_history.proofs.Prelude.{ℕ, ◌≡◌, ◌<◌, false, List, Option, ◌∙◌, ReceiveState, Act, AreFounded, AreReadBack, Agrees, Language, Setup, Call, NoneNotifies, notified_and_read, acts_of, is_forged, language, read_waits, state, view, AreOctets, arith}
 use Rattle.assistant_machine.specs.Links.{is_forged as is_forged_by}
 use Rattle.sink_history.proofs.Acts.{are_back, forged_is, founded, value_is}
 use Rattle.sink_history.proofs.Drains.{out_forged, out_octets, out_state, out_tells, out_waits}

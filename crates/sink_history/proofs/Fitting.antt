@@ -1,6 +1,5 @@
 -- What a sink has fits the octets of its states, whatever octets were written to it.
-use Rattle.sink_history.proofs.Prelude.{ℕ, zero, suc, ◌≡◌, ◌+◌, ◌<◌, ◌≤◌, ◌^◌, Bool, List, [], ◌∷◌, ◌++◌, length, map, Option, Some, None, Result, Ok, refl, sym, ap, subst, arith, slice_set, if◌then◌else◌, is_some, AllByRecursion, flat_map, range_with_len, ltb-false, laid, IsOctets, subgroup_fields, IsOctets-prefix, IsOctets-rest, Operation, Wish, OpIs, WishFits, group_of, Entry, Place, Snapshot, Wanted, idle, on_group, on_train}
-use Rattle.std.proofs.lemmas.List.{length-set}
+use Rattle.sink_history.proofs.Prelude.{ℕ, zero, suc, ◌≡◌, ◌+◌, ◌<◌, ◌≤◌, ◌^◌, Bool, List, [], ◌∷◌, ◌++◌, length, map, Option, Some, None, Result, Ok, refl, sym, ap, subst, arith, slice_set, if◌then◌else◌, is_some, AllByRecursion, flat_map, range_with_len, ltb-false, laid, IsOctets, subgroup_fields, IsOctets-prefix, IsOctets-rest, Operation, Wish, OpIs, WishFits, group_of, Entry, Place, Snapshot, Wanted, idle, on_group, on_train, length-set}
 use Rattle.bcast_base.specs.Encoding.{number}
 use Rattle.bass_operations.specs.declared.fault.OpFault.{OpFault}
 use Rattle.bass_operations.specs.declared.operation.AddSource.{AddSource}

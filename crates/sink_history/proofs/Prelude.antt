@@ -23,3 +23,7 @@ pub use Rattle.sink_history.specs.Calls.{joined, Call, stepped, served, steps_of
 pub use Rattle.sink_history.specs.Drains.{NoneNotifies, notified_and_read, IsAnew, IsApart, IsDrained, LeavesLink, drained, repeated, served_out, notified_out}
 pub use Rattle.sink_history.specs.Links.{acts_of, is_forged, language, read_waits, state, Acts, Told, made_all, read_first, notified_first, view, delivered, notices_waiting, reads_waiting, forging_by}
 pub use Rattle.sink_history.specs.Octets.{AreOctets, IsWritten}
+pub use Rattle.std.proofs.lemmas.List.{length-set, append-nil}
+pub use Rattle.bass_operations.specs.Reading.{op_of}
+pub use Rattle.receive_state.specs.Reading.{state_of}
+pub use Rattle.delegator_history.specs.Writes.{cause_of}

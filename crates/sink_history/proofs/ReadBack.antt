@@ -1,14 +1,11 @@
 -- The octets that a slot has as its value are read as its state.
-use Rattle.sink_history.proofs.Prelude.{ℕ, zero, suc, ◌≡◌, ◌↔◌, ◌+◌, ◌<◌, ◌^◌, Bool, true, false, List, [], ◌∷◌, ◌++◌, length, map, drop, get_or, slice_get, Option, Some, None, option_map, Ok, refl, sym, ap, subst, arith, ◌==◌, ◌&&◌, not, if◌then◌else◌, AllByRecursion, flat_map, le-ltb, NoneReserved, laid, IsOctets, Fits, subgroup_fields, is_reserved, all_bits, Operation, Wish, OpIs, ReceiveState, reading_of, Entry, Snapshot, is_on_group, Step, record_added, locations_set, contexts_set, mtu_set, sync_to_group, written, train_heard, train_lost, done_by, entry_in, snapshot_of, Setup, Status, encryption_of, groups_from, received, state_at, status_of, value, Call, stepped, joined, asked, served, served_of, steps_of, with_step, writes, writes_waiting, AreOctets, IsWritten}
+use Rattle.sink_history.proofs.Prelude.{ℕ, zero, suc, ◌≡◌, ◌↔◌, ◌+◌, ◌<◌, ◌^◌, Bool, true, false, List, [], ◌∷◌, ◌++◌, length, map, drop, get_or, slice_get, Option, Some, None, option_map, Ok, refl, sym, ap, subst, arith, ◌==◌, ◌&&◌, not, if◌then◌else◌, AllByRecursion, flat_map, le-ltb, NoneReserved, laid, IsOctets, Fits, subgroup_fields, is_reserved, all_bits, Operation, Wish, OpIs, ReceiveState, reading_of, Entry, Snapshot, is_on_group, Step, record_added, locations_set, contexts_set, mtu_set, sync_to_group, written, train_heard, train_lost, done_by, entry_in, snapshot_of, Setup, Status, encryption_of, groups_from, received, state_at, status_of, value, Call, stepped, joined, asked, served, served_of, steps_of, with_step, writes, writes_waiting, AreOctets, IsWritten, op_of, state_of, cause_of}
 use Rattle.bcast_base.specs.Encoding.{number}
-use Rattle.bass_operations.specs.Reading.{op_of}
 use Rattle.receive_state.specs.Layout.{IsEncoded, StateIs, code_of, group_of, number_of, encoding}
-use Rattle.receive_state.specs.Reading.{state_of}
 use Rattle.assistant_machine.specs.Views.{told_of}
 use Rattle.delegator_history.specs.declared.train_heard.ControlHeard.{ControlHeard}
 use Rattle.delegator_history.specs.Controls.{control_heard, done_heard}
 use Rattle.delegator_history.specs.States.{control_heard as control, notified, answered}
-use Rattle.delegator_history.specs.Writes.{cause_of}
 use Rattle.delegator_history.proofs.Citable.{snapshot_goes_on}
 use Rattle.sink_history.proofs.Fitting.{AreSets, DoneIs, EntryIs, MetadataIs, SnapshotIs, SlotIs, after_is, entries_count, entry_is, no_entries, operation_is, read_done_is}
 use Rattle.sink_history.proofs.OctetLists.{joined_octets, no_octets, number_octets, one_more}

@@ -1,6 +1,5 @@
 -- A step of the delegator puts its notices behind those that wait on a link, and changes nothing that its assistant knows.
-use Rattle.sink_history.proofs.Prelude.{ℕ, zero, suc, ◌≡◌, ◌+◌, ◌≤◌, Bool, List, [], ◌∷◌, ◌++◌, length, length-append, map, Option, refl, sym, ap, ◌∙◌, subst, append_assoc, arith, bytes_eq, if◌then◌else◌, flat_map, range_with_len, AreFounded, delivered_of, made, notices_of, view_of, waiting_of, waits_of, Notice, change, changes, handed_out, Snapshot, snapshot_of, Setup, state_at, value_at, Call, stepped, served, steps_of, Acts, Told, acts_of, delivered, language, made_all}
-use Rattle.std.proofs.lemmas.List.{append-nil}
+use Rattle.sink_history.proofs.Prelude.{ℕ, zero, suc, ◌≡◌, ◌+◌, ◌≤◌, Bool, List, [], ◌∷◌, ◌++◌, length, length-append, map, Option, refl, sym, ap, ◌∙◌, subst, append_assoc, arith, bytes_eq, if◌then◌else◌, flat_map, range_with_len, AreFounded, delivered_of, made, notices_of, view_of, waiting_of, waits_of, Notice, change, changes, handed_out, Snapshot, snapshot_of, Setup, state_at, value_at, Call, stepped, served, steps_of, Acts, Told, acts_of, delivered, language, made_all, append-nil}
 use Rattle.assistant_machine.proofs.Citable.{drop_more}
 use Rattle.assistant_machine.specs.Links as links
 use Rattle.sink_history.specs.Steps.{IsStep, NotifiesLink}

@@ -1,6 +1,6 @@
 -- A run over the lines behind `scenario 1` and behind `scenario 2`: it brings the same, where the run in version 1 isn't refused
 -- for BadLine, `BadGroup 11` or TimeOrder, and no `train` step in it prints `BadGroup 11`. Histories have the newest line first.
-use Rattle.scenario_laws.proofs.Known.Sources.{ℕ, suc, ◌≡◌, ◌⊎◌, ◌+◌, nat_eq, false, List, [], ◌∷◌, ◌++◌, length, reverse, Option, None, Some, refl, arith, sym, ◌∙◌, ap, ap₂, subst, inl, inr, false≢true, append-nil, none-some, same_Some, TextLine, Account, Horizon, Settings, Train, answer_of, outcome_by, Accepted, End, Rules, accepted_of, accepted_unless, end_unless, number_after, out, out_unless, refused, reverse_onto, airs_of, Step, refusal_line, Refusal, given_train, made_of, snapshot_in, handed_up, a_step, nothing, unsaid, output_said, refusal_said, rules_of, said_in, steps_of, with_said, is_misplaced, refusal_of, has_relay, is_over, is_unbegun_at, stage_after, stage_of, version_of, calls_made, source_at, EndsLasting, NonePrintsHorizon, PrintsHorizon, horizon_line, end_of, Said, said_after, said_of, SaidNever, line_passes, none_relayed, nothing_else, plain_after, says_no_relay, Legal, LinesInRange, legal, permitted, HearsNear, has_relay_same, is_later, over_same, second, seconds as near_or_horizon}
+use Rattle.scenario_laws.proofs.Known.Sources.{ℕ, suc, ◌≡◌, ◌⊎◌, ◌+◌, nat_eq, false, List, [], ◌∷◌, ◌++◌, length, reverse, Option, None, Some, refl, arith, sym, ◌∙◌, ap, ap₂, subst, inl, inr, false≢true, append-nil, none-some, same_Some, TextLine, Account, Horizon, Settings, Train, answer_of, outcome_by, Accepted, End, Rules, accepted_of, accepted_unless, end_unless, number_after, out, out_unless, refused, reverse_onto, airs_of, Step, refusal_line, Refusal, given_train, made_of, snapshot_in, handed_up, a_step, nothing, unsaid, output_said, refusal_said, rules_of, said_in, steps_of, with_said, is_misplaced, refusal_of, has_relay, is_over, is_unbegun_at, stage_after, stage_of, version_of, calls_made, source_at, EndsLasting, NonePrintsHorizon, PrintsHorizon, horizon_line, end_of, Said, said_after, said_of, SaidNever, line_passes, none_relayed, nothing_else, plain_after, says_no_relay, Legal, LinesInRange, legal, permitted, HearsNear, has_relay_same, is_later, over_same, second, seconds, answer_near as near_or_horizon}
 use Rattle.delegator_history.specs.declared.train_heard.TrainHeard.TheVariants.{BadGroup as Refused}
 use Rattle.scenario_laws.proofs.Versions.Lived.{AreCalm, IsCalm}
 use Rattle.scenario_laws.proofs.Versions.Outputs.{handed_up_same, output_same}

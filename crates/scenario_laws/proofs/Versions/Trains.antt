@@ -123,3 +123,6 @@ pub outcome_near : (setup : Setup) (snapshot : Snapshot) (train : Train) → Rea
 outcome_near setup snapshot train near = grind (arith, near_if)
 
 -- ---- either way
+
+pub answer_near : (answer : TrainHeard) → AnswersNear answer ⊎ (answer ≡ answers.BadGroup Horizon)
+answer_near _ = grind arith

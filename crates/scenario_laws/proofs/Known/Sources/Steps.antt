@@ -10,7 +10,7 @@ pub use Rattle.scenario_laws.proofs.RelayedUnits.Legal.{second_false, happens_le
 pub use Rattle.scenario_laws.proofs.Isolating.Same.{Same, HistoriesAlike, chosen_alike, horizon_alike, source_alike}
 pub use Rattle.scenario_laws.proofs.Places.{air_place, same_place, tick_if_place}
 pub use Rattle.scenario_laws.proofs.RelayedUnits.One.{line_passes, is_free, gives_none, OneStands, contains_cases, first_free, one_stands, has_had}
-pub use Rattle.scenario_laws.proofs.Versions.Trains.{within_near, ReadsNear, outcome_near, first_same, near_or_horizon}
+pub use Rattle.scenario_laws.proofs.Versions.Trains.{within_near, ReadsNear, outcome_near, first_same, near_or_horizon, answer_near}
 pub use Rattle.scenario_laws.proofs.Versions.Histories.{AreQuietCalls, drained_same, quiet_drained, quiet_served}
 pub use Rattle.scenario_laws.proofs.Versions.Printed.{HearsNear, IsQuietHistory, made_with_horizon, printed_same, brings_same, its_snapshot, refused_same}
 pub use Rattle.scenario_laws.proofs.HearingMore.{filter_append, opened_same, framed_hearing, unframed_hearing}

@@ -1,4 +1,4 @@
-use Rattle.std.proofs.Common.{arith}
+use Rattle.sink_history.proofs.Prelude.{arith}
 use Rattle.sink_history.proofs.Agreeing.{agrees, drained_agrees}
 use Rattle.sink_history.proofs.link_laws.agreement_law.Goals as goal
 
