@@ -3,8 +3,6 @@
 
 mod player;
 mod playlist;
-#[cfg(test)]
-mod tests;
 
 pub use player::Player;
 pub use playlist::{Entry, Playlist};

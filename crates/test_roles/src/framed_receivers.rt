@@ -7,7 +7,7 @@ use isoal_framed::FramedIn;
 use std::alloc::Global;
 
 /// Units of at most 8 octets every 10.884 ms, in a PDU of at most 10 octets an event.
-const SEGMENTS: BigInfo = BigInfo {
+pub(crate) const SEGMENTS: BigInfo = BigInfo {
     max_pdu: 10,
     sdu_interval: 10884,
     max_sdu: 8,
@@ -16,7 +16,7 @@ const SEGMENTS: BigInfo = BigInfo {
 };
 
 /// The start of a unit of 7 octets.
-const START: [u8; 12] = [
+pub(crate) const START: [u8; 12] = [
     0x02, 0x0a, 0x00, 0x08, 0x88, 0x13, 0x00, 0xd0, 0xd1, 0xd2, 0xd3, 0xd4,
 ];
 

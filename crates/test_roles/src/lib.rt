@@ -9,6 +9,8 @@ mod framed_receivers;
 #[cfg(test)]
 mod numbers;
 #[cfg(test)]
+mod players;
+#[cfg(test)]
 mod receivers;
 #[cfg(test)]
 mod refused_takers;
