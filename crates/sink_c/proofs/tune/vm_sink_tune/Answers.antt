@@ -18,30 +18,30 @@ returns-in-Ok-tune-clause-stands c = λ setup calls stands _.
 
 pub returns-in-Ok-tune-clause-bounds : goal.returns-in-Ok-tune-clause-bounds
 returns-in-Ok-tune-clause-bounds c = λ _. (
-      subst FitsWidths c.info_in-read.ensures (c.fits.ensures.0 c.if-not-fits.false),
-      omega (arith, c.if-streams-eq0.false),
-      c.if-first_event.false,
-      c.if-anchor.false,
-      c.if-delay.false,
-    )
+  subst FitsWidths c.info_in-read.ensures (c.fits.ensures.0 c.if-not-fits.false),
+  omega (arith, c.if-streams-eq0.false),
+  c.if-first_event.false,
+  c.if-anchor.false,
+  c.if-delay.false,
+)
 
 pub returns-in-Err-tune-clause-bounds : goal.returns-in-Err-tune-clause-bounds
 returns-in-Err-tune-clause-bounds c = λ _. (
-      subst FitsWidths c.info_in-read.ensures (c.fits.ensures.0 c.if-not-fits.false),
-      omega (arith, c.if-streams-eq0.false),
-      c.if-first_event.false,
-      c.if-anchor.false,
-      c.if-delay.false,
-    )
+  subst FitsWidths c.info_in-read.ensures (c.fits.ensures.0 c.if-not-fits.false),
+  omega (arith, c.if-streams-eq0.false),
+  c.if-first_event.false,
+  c.if-anchor.false,
+  c.if-delay.false,
+)
 
 pub returns-in-Err-clause-bounds : goal.returns-in-Err-clause-bounds
 returns-in-Err-clause-bounds c = λ _. (
-      subst FitsWidths c.info_in-read.ensures (c.fits.ensures.0 c.if-not-fits.false),
-      omega (arith, c.if-streams-eq0.false),
-      c.if-first_event.false,
-      c.if-anchor.false,
-      c.if-delay.false,
-    )
+  subst FitsWidths c.info_in-read.ensures (c.fits.ensures.0 c.if-not-fits.false),
+  omega (arith, c.if-streams-eq0.false),
+  c.if-first_event.false,
+  c.if-anchor.false,
+  c.if-delay.false,
+)
 
 pub returns-in-Ok-tune-clause-sound : goal.returns-in-Ok-tune-clause-sound
 returns-in-Ok-tune-clause-sound c = λ _ _. ap (first_fault 31) (sym c.info_in-read.ensures) ∙ c.in-Ok.ensures.ok.1
