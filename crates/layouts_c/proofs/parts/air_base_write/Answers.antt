@@ -10,15 +10,3 @@ returns-in-Some-clause-base c =
     let v = base_in c.args.delay c.args.subgroups.now c.args.streams.now c.args.octets.now in
     λ base _. no_fault_of v c.in-Some.found base
     (told_as (told c.in-Err.found) (base_of (encoding v)) c.in-Some.found c.in-Err.ensures.fault (sym c.fault_in.ensures ∙ c.in-Some.is))
-
-pub returns-in-None-clause-bounds : goal.returns-in-None-clause-bounds
-returns-in-None-clause-bounds c = λ _. sym c.parts_fit.ensures ∙ c.if-not-parts_fit.false
-
-pub returns-in-Some-clause-bounds : goal.returns-in-Some-clause-bounds
-returns-in-Some-clause-bounds c = λ _. sym c.parts_fit.ensures ∙ c.if-not-parts_fit.false
-
-pub returns-then-not-put-clause-bounds : goal.returns-then-not-put-clause-bounds
-returns-then-not-put-clause-bounds c = λ _. sym c.parts_fit.ensures ∙ c.if-not-parts_fit.false
-
-pub returns-clause-bounds : goal.returns-clause-bounds
-returns-clause-bounds c = λ _. sym c.parts_fit.ensures ∙ c.if-not-parts_fit.false
