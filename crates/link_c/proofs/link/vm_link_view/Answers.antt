@@ -29,3 +29,27 @@ returns-then-not-put-clause-enough c = λ slots calls stands within _.
     let long = view_within (length c.args.room.now) c.args.slot calls within in
     let fits = c.put.ensures.fits (omega (arith, ap length octets, long)) in
     absurd cc (fits, c.if-not-put.true)
+
+pub returns-then-slot-slot_count-clause-none : goal.returns-then-slot-slot_count-clause-none
+returns-then-slot-slot_count-clause-none c = λ slots calls stands _.
+    let kept : StandsFor slots calls c.lend-machine.result.now.assistant = subst (LinkStandsIn slots calls) c.lend-machine.ensures.value stands in
+    let count = c.slot_count.ensures.slots slots calls kept in
+    omega (arith, count, c.if-slot-slot_count.true)
+
+pub returns-in-Err-clause-slot : goal.returns-in-Err-clause-slot
+returns-in-Err-clause-slot c = λ slots calls stands above.
+    let kept : StandsFor slots calls c.lend-machine.result.now.assistant = subst (LinkStandsIn slots calls) c.lend-machine.ensures.value stands in
+    let count = c.slot_count.ensures.slots slots calls kept in
+    absurd (omega (arith, count, above, c.if-slot-slot_count.false))
+
+pub returns-then-not-put-clause-slot : goal.returns-then-not-put-clause-slot
+returns-then-not-put-clause-slot c = λ slots calls stands above.
+    let kept : StandsFor slots calls c.lend-machine.result.now.assistant = subst (LinkStandsIn slots calls) c.lend-machine.ensures.value stands in
+    let count = c.slot_count.ensures.slots slots calls kept in
+    absurd (omega (arith, count, above, c.if-slot-slot_count.false))
+
+pub returns-clause-slot : goal.returns-clause-slot
+returns-clause-slot c = λ slots calls stands above.
+    let kept : StandsFor slots calls c.lend-machine.result.now.assistant = subst (LinkStandsIn slots calls) c.lend-machine.ensures.value stands in
+    let count = c.slot_count.ensures.slots slots calls kept in
+    absurd (omega (arith, count, above, c.if-slot-slot_count.false))

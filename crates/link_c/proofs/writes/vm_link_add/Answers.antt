@@ -20,3 +20,18 @@ returns-in-Ok-clause-values c = λ wishes _ is.
         ),
       ),
     )
+
+pub returns-then-not-is_short-clause-bounds : goal.returns-then-not-is_short-clause-bounds
+returns-then-not-is_short-clause-bounds c = λ _. (c.if-address_type-gt1.false, c.if-sid-gt15.false, c.if-pa_sync-gt2.false, sym c.are_free.ensures ∙ c.if-not-are_free.false)
+
+pub returns-in-Ok-None-clause-bounds : goal.returns-in-Ok-None-clause-bounds
+returns-in-Ok-None-clause-bounds c = λ _. (c.if-address_type-gt1.false, c.if-sid-gt15.false, c.if-pa_sync-gt2.false, sym c.are_free.ensures ∙ c.if-not-are_free.false)
+
+pub returns-in-Err-clause-bounds : goal.returns-in-Err-clause-bounds
+returns-in-Err-clause-bounds c = λ _. (c.if-address_type-gt1.false, c.if-sid-gt15.false, c.if-pa_sync-gt2.false, sym c.are_free.ensures ∙ c.if-not-are_free.false)
+
+pub returns-in-Ok-clause-bounds : goal.returns-in-Ok-clause-bounds
+returns-in-Ok-clause-bounds c = λ _. (c.if-address_type-gt1.false, c.if-sid-gt15.false, c.if-pa_sync-gt2.false, sym c.are_free.ensures ∙ c.if-not-are_free.false)
+
+pub returns-in-Err-add-clause-bounds : goal.returns-in-Err-add-clause-bounds
+returns-in-Err-add-clause-bounds c = λ _. (c.if-address_type-gt1.false, c.if-sid-gt15.false, c.if-pa_sync-gt2.false, sym c.are_free.ensures ∙ c.if-not-are_free.false)
