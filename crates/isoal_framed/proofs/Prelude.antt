@@ -2,7 +2,7 @@
 pub use Rattle.std.proofs.Common.{ℕ, zero, suc, ◌≡◌, ◌+◌, ◌-◌, ◌*◌, ◌/◌, ◌<◌, ◌≤◌, inl, inr, true, false, Bool, List, [], ◌∷◌, ◌++◌, length, drop, Option, Some, None, refl, sym, ap, ◌∙◌, subst, arith, append_assoc, length-drop, map, take, replicate, get_or, ◌⊎◌, length-append, cond, eqb, ◌&&◌, Result, Ok, vec_len, is_some, leb, Err, ltb, lit<, lit≤}
 pub use Rattle.std.proofs.Math.Nat.{add-mul, div-lt_iff_lt-mul, le-div_iff_mul-le}
 pub use Rattle.std.proofs.lemmas.Bool.{cond-true, cond-false, true≢false, false≢true, cases_Bool, leb-true, leb-false, le-leb, lt-leb, eqb-true, eq-eqb, ne_eqb, cases_order, lt-ltb, le-ltb, and_right, and_from, and_left, cases_eq}
-pub use Rattle.std.proofs.lemmas.List.{length-map, drop-append-le, drop-drop, append-nil, length-take, map-append, drop-map, length-replicate, replicate-append-replicate, take-append-le, take-append-drop, take_all, map-set, drop_more, drop-set-lt, get_or-drop, get_or-set_same, length-set, take-map, take-set, take_more}
+pub use Rattle.std.proofs.lemmas.List.{length-map, drop-append-le, drop-drop, append-nil, length-take, map-append, drop-map, length-replicate, replicate-append-replicate, take-append-le, take-append-drop, take_all, map-set, drop_more, drop-set-lt, get_or-drop, get_or-set_same, length-set, take-map, take-set, take_more, get_or-map}
 pub use Rattle.std.proofs.lemmas.Option.{none-some, slice_get_past, slice_get_within, same_Some, get_or_from_slice_get, slice_get_cases}
 pub use Rattle.std.proofs.lemmas.Result.{on_ok_weaker, IfOk-weaker}
 pub use Rattle.std.specs.List.{flat_map, range_with_len, slice_get, All}
