@@ -60,7 +60,7 @@ fn index_behind(n: u8) -> Bis
     Bis::new(n + 1).unwrap()
 }
 
-/// A draft whose step is none that it refuses fails for want of memory alone.
+/// A step that a draft doesn't refuse fails for want of memory alone.
 fn wanting(fault: DraftFault) -> Memory
     requires { fault ≡ NoMemory }
 {

@@ -5,7 +5,7 @@ ghost use Rattle.base_grammar.specs.AdReading.{ads_of};
 ghost use Rattle.ltv_codec.specs.declared.ltvs.Ltv.{Ltv};
 ghost use Rattle.bcast_base.specs.Encoding.{IsOctets};
 
-/// Octets are read as an AD list exactly where they are its structures up to the end or to a length octet of 0.
+/// Octets are read as an AD list if and only if they are its structures, up to the end or to a length octet of 0.
 pub fn ad_list_is_read()
     ensures { (ads : List Ltv) (octets : List ℕ) → IsOctets octets → (ads_of octets ≡ Ok ads) ↔ IsAdList ads octets }
 {}

@@ -6,7 +6,7 @@ ghost use Rattle.base_grammar.specs.Layout.{Endpoint, BaseIs};
 ghost use Rattle.base_grammar.specs.Reading.{base_of};
 ghost use Rattle.base_grammar.specs.declared.fault.BaseFault.{BaseFault};
 
-/// Octets are read as a BASE exactly where they are its encoding, so at most one BASE has it: what is encoded is decoded,
+/// Octets are read as a BASE if and only if they are its encoding, so no octets encode two: what is encoded is decoded,
 /// and what was decoded is encoded to the same octets.
 pub fn read_is_base()
     ensures { (v : Endpoint) (octets : List ℕ) → IsOctets octets → (base_of octets ≡ Ok v) ↔ BaseIs v octets }

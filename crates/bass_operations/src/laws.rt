@@ -10,12 +10,12 @@ ghost use Rattle.bass_operations.specs.declared.fault.OpFault.TheVariants.{Memor
 ghost use Rattle.bass_operations.specs.declared.operation.Operation.{Operation};
 ghost use Rattle.bass_operations.specs.declared.wishes.Wish.{Wish};
 
-/// Octets are read as an operation exactly where they are it, so at most one operation has them.
+/// Octets are read as an operation if and only if they have its layout, so no octets are those of two operations.
 pub fn read_is_operation()
     ensures { (op : Operation) (octets : List ℕ) → IsOctets octets → (op_of octets ≡ Ok op) ↔ OpIs op octets }
 {}
 
-/// Octets are refused by a fault exactly where it is what is wrong with them, so at most one fault is.
+/// Octets are refused with a fault if and only if it is their first one, so no octets have two.
 pub fn fault_is_cause()
     ensures { (fault : OpFault) (octets : List ℕ) → fault ≢ Memory → IsOctets octets → (op_of octets ≡ Err fault) ↔ IsFault fault octets }
 {}

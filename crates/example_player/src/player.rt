@@ -50,8 +50,8 @@ impl Player {
         self.receiver.hear(number, pdu)
     }
 
-    /// Closes the open event, and keeps the units that are decided by it. After Memory the event is closed too, and of these units a
-    /// front is kept.
+    /// Closes the open event, and keeps the units that are decided by it. After Memory the event is closed too, and a prefix of these
+    /// units is kept.
     pub fn close(&mut self) -> Result<(), Memory>
         requires { open_event_of self.old < 2 ^ 39 }
         ensures plays { (stay : Stay) (calls : List Call) → Plays stay calls self.old

@@ -89,7 +89,7 @@ pub fn write_terminate(reason: u8, instant: u16) -> [u8; 6]
     [0b11, 4, 0x01, reason, low, high]
 }
 
-/// Exactly the payloads of the layout are read, each as what it is the layout of, and each other has the fault that is answered.
+/// A payload is read if and only if it has a layout, as what has this layout. Any other has the fault that is answered.
 pub fn control_is_layout()
     ensures layout { (told : Control) (octets : List ℕ) → (control_of octets ≡ Ok told) ↔ ControlIs told octets }
     ensures fault { (fault : ControlFault) (octets : List ℕ) → (control_of octets ≡ Err fault) ↔ ControlFaultIs fault octets }

@@ -6,7 +6,7 @@ ghost use Rattle.iso_pdu.specs.Reading.{read_of};
 ghost use Rattle.iso_pdu.specs.Encoding.{payload_of, pdu};
 ghost use Rattle.iso_pdu.specs.declared.fault.PduFault.{PduFault};
 
-/// Exactly the octets of the layout are read, each as what it is the layout of.
+/// Octets are read as a PDU if and only if they have its layout and a payload of at most `max_pdu` octets.
 pub fn read_is_layout()
     ensures { (max_pdu : ℕ) (content : Content) (octets : List ℕ)
         → (read_of max_pdu octets ≡ Ok content) ↔ (PduIs content octets × (length octets ≤ max_pdu + 2)) }

@@ -54,7 +54,7 @@ pub record IsPrefix (max_sdu : ℕ) (slot : List (Option Content)) (parts : List
   pub ends_last : EndsLast parts
   pub fits : count_in parts ≤ max_sdu
 
--- Held of a slot: the octets of the longest such front
+-- Held of a slot: the octets of the longest such prefix
 pub record IsHeld (max_sdu : ℕ) (slot : List (Option Content)) (octets : ℕ) : Type 0 where
   pub prefix : List Content
   pub is_prefix : IsPrefix max_sdu slot prefix

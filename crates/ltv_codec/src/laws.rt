@@ -7,7 +7,7 @@ ghost use Rattle.ltv_codec.specs.Reading.{ltvs_of};
 ghost use Rattle.ltv_codec.specs.declared.fault.LtvBad.{LtvBad};
 ghost use Rattle.ltv_codec.specs.declared.ltvs.Ltv.{Ltv};
 
-/// Octets are read as a list exactly where they are its encoding, so at most one list has it.
+/// Octets are read as a list if and only if they are its encoding, so no octets encode two lists.
 pub fn read_is_list()
     ensures { (ltvs : List Ltv) (octets : List ℕ) → IsOctets octets → (ltvs_of octets ≡ Ok ltvs) ↔ IsLtvList ltvs octets }
 {}

@@ -13,7 +13,7 @@ ghost use Rattle.pacs_records.specs.Reading.{value_in};
 ghost use Rattle.pacs_records.specs.declared.fault.PacFault.{PacFault};
 ghost use Rattle.pacs_records.specs.declared.record.PacRecord.{PacRecord};
 
-/// Octets are read as a list of records exactly where they are its value, so at most one list has it.
+/// Octets are read as a list of records if and only if they are its value, so no octets are the value of two lists.
 pub fn read_is_value()
     ensures { (records : List PacRecord) (octets : List ℕ) → IsOctets octets → (value_in octets ≡ Ok records) ↔ PacIs records octets }
 {}

@@ -6,8 +6,8 @@ ghost use Rattle.scenario_history.specs.RelayedUnits.{with_relayed_units};
 ghost use Rattle.scenario_laws.specs.RelayedUnits.Laws.{DroppedLaw, HappensLegally, IsLeft, NoneRelayed, NothingElse, PassesAtOnce, PrintsUnits};
 ghost use Rattle.scenario_laws.specs.RelayedUnits.Laws.{RelayLaw};
 
-/// Gifts leave all but source 1 as it is: the scenario, the chosen source, source 0, each sink with its relay, and what was handed
-/// up. They leave the open event of source 1, too.
+/// Relayed units leave all but source 1 as it is: the scenario, the chosen source, source 0, each sink with its relay, and what was
+/// handed up. They leave the open event of source 1, too.
 pub fn relayed_units_leave_all_else()
     ensures { (airs : Airs) (steps : List Step) (step : Step) → IsLeft airs (with_relayed_units airs steps step) steps }
 {}
